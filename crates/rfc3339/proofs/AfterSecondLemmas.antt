@@ -38,7 +38,7 @@ parts_on-takes p q text e =
 pub parts_on-again : (p q : Parts) (text : List ℕ) → IsAfterSecond p text q → parts_on p text ≡ Some q
 parts_on-again p q text h =
     let ends : EndsFraction h.offset =
-        rw (append-nil h.offset) at (offset_ends h.offset q.is_west q.offset_hour q.offset_minute [] h.is_offset) in
+    rw (append-nil h.offset) at (offset_ends h.offset q.is_west q.offset_hour q.offset_minute [] h.is_offset) in
     let zone = rw (append-nil h.offset) at (zone_again h.offset q.is_west q.offset_hour q.offset_minute [] h.is_offset h.hour_fits h.minute_fits) in
     rw (h.spelled, fraction_again h.fraction q.nanosecond h.offset h.is_fraction ends, zone) (ap Some (sym h.kept))
 

@@ -17,8 +17,8 @@ returns-then-is_empty-clause-equation c p h =
 pub returns-then-is_empty-clause-spelled : goal.returns-then-is_empty-clause-spelled
 returns-then-is_empty-clause-spelled c =
     let whole : Some c.in_ok-parts.parts ≡ parts_on c.args.parts c.args.text.now =
-        parts_on-whole c.args.parts c.in_ok-parts.parts c.args.text.now c.in_ok-parts.rest.now c.in_ok-parts.ensures.value
-        (sym c.is_empty.ensures ∙ c.if-is_empty.true) in
+    parts_on-whole c.args.parts c.in_ok-parts.parts c.args.text.now c.in_ok-parts.rest.now c.in_ok-parts.ensures.value
+    (sym c.is_empty.ensures ∙ c.if-is_empty.true) in
     parts_on-takes c.args.parts c.in_ok-parts.parts c.args.text.now (sym whole)
 
 pub returns-else-is_empty-clause-equation : goal.returns-else-is_empty-clause-equation
