@@ -195,19 +195,25 @@ class Room:
     """Room for checks of one job side by side: as many as there are jobs at the time."""
 
     def __init__(self):
-        self.running = 0
+        self.running, self.waiting = 0, []
         self.condition = threading.Condition()
 
-    def __enter__(self):
+    @contextlib.contextmanager
+    def of(self, work):
+        """The place of a check with that much work, which it gets before checks with less."""
         with self.condition:
-            while self.running >= jobs():
+            self.waiting.append(work)
+            while work < max(self.waiting) or self.running >= jobs():
                 self.condition.wait(timeout=10)
+            self.waiting.remove(work)
             self.running += 1
-
-    def __exit__(self, *_):
-        with self.condition:
-            self.running -= 1
             self.condition.notify_all()
+        try:
+            yield
+        finally:
+            with self.condition:
+                self.running -= 1
+                self.condition.notify_all()
 
 
 def crates(root=REPOSITORY):
