@@ -1,4 +1,5 @@
 mod DigitLemmas
+mod DigitsFirstLemmas
 mod NameLemmas
 mod LikelyNameLemmas
 mod GroupLemmas

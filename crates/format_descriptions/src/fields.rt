@@ -6,7 +6,7 @@ ghost use Rattle.format_descriptions.specs.Reading.{nothing, ignored_at, end_at,
 ghost use Rattle.format_descriptions.specs.Read.{component_at};
 
 use crate::fractions::{after_digits, fraction, read_digits};
-use crate::reading::{after_word, digit, four, more, sign, three, two, two_digits};
+use crate::reading::{after_word, digit, four, more, sign, three, two, two_digits, year};
 use crate::words::{month, period, weekday, weekday_number};
 use crate::{Component, Padding, Sign, YearRange};
 
@@ -84,10 +84,33 @@ fn unsigned(number: u32, rest: &[u8]) -> Option<((bool, u32), &[u8])>
     Some(((false, number), rest))
 }
 
-// A year: four digits without a sign, or a sign and four digits or more.
-#[tactic(auto, unfolding(crate::specs::Reading::signed_year_at))]
+// A year: four digits without a sign, or a sign and four digits or more. Most texts have four digits.
+#[tactic(auto, using(crate::proofs::DigitsFirstLemmas::year_first, crate::proofs::DigitsFirstLemmas::year_stops))]
 #[inline(always)]
 pub(crate) fn signed_year(
+    sign_given: Sign,
+    padding: Padding,
+    range: YearRange,
+    text: &[u8],
+) -> Option<((bool, u32), &[u8])>
+    ensures value { option_map (λ read. (read.0, read.1.now)) result
+        ≡ signed_year_at sign_given padding range text.now }
+    ensures below { IfSome result (λ read. read.0.1 ≤ 1_000_000_000) }
+    ensures shorter { IfSome result (λ read. length read.1.now ≤ length text.now) }
+{
+    match year(text) {
+        Some((number, rest)) => match sign_given {
+            Sign::Automatic => unsigned(number, rest),
+            Sign::Mandatory => None,
+        },
+        None => year_after_sign(sign_given, padding, range, text),
+    }
+}
+
+// The same of any year.
+#[tactic(auto, unfolding(crate::specs::Reading::signed_year_at))]
+#[inline(never)]
+fn year_after_sign(
     sign_given: Sign,
     padding: Padding,
     range: YearRange,

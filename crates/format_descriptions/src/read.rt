@@ -312,7 +312,7 @@ pub fn parse_component_into<'a>(
     component_into(&component, text, parts)
 }
 
-// The same of a component that stays in its place.
+// The same of a component that stays in its place. Each component has its arm, so that a table of them needs no test.
 #[tactic(auto, unfolding(crate::specs::Read::component_at, crate::specs::Read::agrees, crate::specs::Read::with_part))]
 #[inline(always)]
 fn component_into<'a>(component: &Component, text: &'a [u8], parts: &mut Parts) -> Option<&'a [u8]>
@@ -415,7 +415,25 @@ fn component_into<'a>(component: &Component, text: &'a [u8], parts: &mut Parts) 
             parts.nanosecond = Some(number);
             Some(rest)
         }
-        _ => other_part_at(*component, text, parts),
+        Component::Year(YearBase::IsoWeek, _, _, _)
+        | Component::YearCentury(_, _, _, _)
+        | Component::YearLastTwo(_, _)
+        | Component::Ordinal(_)
+        | Component::WeekdayNumber(_, _)
+        | Component::WeekNumber(_, _)
+        | Component::Hour12(_)
+        | Component::Period(_, _)
+        | Component::OffsetSecond(_)
+        | Component::UnixTimestamp(_, _)
+        | Component::Ignore(_)
+        | Component::End
+        | Component::IgnoreWeekday(_, _)
+        | Component::IgnoreDigits
+        | Component::OffsetWord(_, _)
+        | Component::YearSince(_)
+        | Component::YearSix(_)
+        | Component::HourFraction(_)
+        | Component::MinuteFraction(_) => other_part_at(*component, text, parts),
     }
 }
 

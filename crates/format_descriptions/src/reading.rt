@@ -7,17 +7,16 @@ ghost use Rattle.format_descriptions.specs.Reading.{sign_at, is_letter, letter_a
 
 use crate::{Padding, ReadCase, YearRange};
 
-// A number of two digits, or of one, by its padding.
-#[tactic(auto, unfolding(crate::specs::Reading::two_at))]
+// A number of two digits, or of one, by its padding. Two digits are read whatever the padding is.
 #[inline(always)]
 pub(crate) fn two(padding: Padding, text: &[u8]) -> Option<(u32, &[u8])>
     ensures value { option_map (λ read. (read.0, read.1.now)) result ≡ two_at padding text.now }
     ensures below { IfSome result (λ read. read.0 < 100) }
     ensures shorter { IfSome result (λ read. length read.1.now ≤ length text.now) }
 {
-    match padding {
-        Padding::Zero => two_digits(text),
-        Padding::Space | Padding::Bare => two_padded(padding, text),
+    match two_digits(text) {
+        Some((number, rest)) => Some((number, rest)),
+        None => two_padded(padding, text),
     }
 }
 
@@ -76,22 +75,23 @@ fn digit_more(number: u32, text: &[u8]) -> (u32, &[u8])
     }
 }
 
-// A number of four digits, or of fewer, by its padding.
-#[tactic(auto, unfolding(crate::specs::Reading::four_at))]
+// A number of four digits, or of fewer, by its padding. Four digits are read whatever the padding is.
+#[tactic(auto, using(crate::proofs::DigitsFirstLemmas::four_first))]
 #[inline(always)]
 pub(crate) fn four(padding: Padding, text: &[u8]) -> Option<(u32, &[u8])>
     ensures value { option_map (λ read. (read.0, read.1.now)) result ≡ four_at padding text.now }
     ensures below { IfSome result (λ read. read.0 < 10_000) }
     ensures shorter { IfSome result (λ read. length read.1.now ≤ length text.now) }
 {
-    match padding {
-        Padding::Zero => year(text),
-        Padding::Space | Padding::Bare => four_padded(padding, text),
+    match year(text) {
+        Some((number, rest)) => Some((number, rest)),
+        None => four_padded(padding, text),
     }
 }
 
 // The same of any padding.
 #[tactic(auto, unfolding(crate::specs::Reading::four_at, crate::specs::Reading::three_at, crate::specs::Reading::two_at))]
+#[inline(never)]
 fn four_padded(padding: Padding, text: &[u8]) -> Option<(u32, &[u8])>
     ensures value { option_map (λ read. (read.0, read.1.now)) result ≡ four_at padding text.now }
     ensures below { IfSome result (λ read. read.0 < 10_000) }
@@ -129,15 +129,28 @@ pub(crate) fn more(range: YearRange, number: u32, text: &[u8]) -> (u32, &[u8])
 }
 
 // Four digits.
-#[tactic(auto, unfolding(rfc3339::specs::Reading::year_at))]
+#[tactic(auto, unfolding(rfc3339::specs::Reading::year_at, rfc3339::specs::Reading::two_digits_at, rfc3339::specs::Reading::digit_at))]
+#[inline(always)]
 pub(crate) fn year(text: &[u8]) -> Option<(u32, &[u8])>
     ensures value { option_map (λ read. (read.0, read.1.now)) result ≡ year_at text.now }
     ensures below { IfSome result (λ read. read.0 < 10_000) }
     ensures shorter { IfSome result (λ read. length read.1.now ≤ length text.now) }
 {
-    let (century, text) = two_digits(text)?;
-    let (year, text) = two_digits(text)?;
-    Some((century * 100 + year, text))
+    let [first, second, third, fourth, rest @ ..] = text else {
+        return None;
+    };
+    if first.is_ascii_digit()
+        && second.is_ascii_digit()
+        && third.is_ascii_digit()
+        && fourth.is_ascii_digit()
+    {
+        Some((
+            number(*first, *second) * 100 + number(*third, *fourth),
+            rest,
+        ))
+    } else {
+        None
+    }
 }
 
 // Three digits.
@@ -162,7 +175,7 @@ pub(crate) fn two_digits(text: &[u8]) -> Option<(u32, &[u8])>
     let [tens, units, rest @ ..] = text else {
         return None;
     };
-    if tens.is_ascii_digit() & units.is_ascii_digit() {
+    if tens.is_ascii_digit() && units.is_ascii_digit() {
         Some((number(*tens, *units), rest))
     } else {
         None

@@ -6,9 +6,9 @@ use crate::names::{month_word, period_word, weekday_word};
 use crate::reading::{after_word, digit};
 use crate::{Case, NameForm, ReadCase, WeekStart, WeekdayCount};
 
-// The name of a month. Its third letter, and one before it, tell which name alone it can be.
+// The name of a month. Its second and its third letter tell which name alone it can be.
 #[tactic(auto, using(crate::proofs::LikelyNameLemmas::likely_month))]
-#[inline(never)]
+#[inline(always)]
 pub(crate) fn month(form: NameForm, case: ReadCase, text: &[u8]) -> Option<(u32, &[u8])>
     ensures value { option_map (λ read. (read.0, read.1.now)) result
         ≡ month_at form case 12 text.now }
@@ -22,36 +22,26 @@ pub(crate) fn month(form: NameForm, case: ReadCase, text: &[u8]) -> Option<(u32,
     }
 }
 
-// The only month whose name can begin so.
+// The only month whose name can begin so. Each name has a sum of its own, whatever the case of the letters is.
 fn likely_month(text: &[u8]) -> u8
     ensures { (1 ≤ result) × (result ≤ 12) }
 {
-    let [first, second, third, ..] = text else {
+    let [_, second, third, ..] = text else {
         return 1;
     };
-    match third.to_ascii_lowercase() {
-        b'b' => 2,
-        b'r' => {
-            if first.to_ascii_lowercase() == b'm' {
-                3
-            } else {
-                4
-            }
-        }
-        b'y' => 5,
-        b'l' => 7,
-        b'g' => 8,
-        b'p' => 9,
-        b't' => 10,
-        b'v' => 11,
-        b'c' => 12,
-        _ => {
-            if second.to_ascii_lowercase() == b'u' {
-                6
-            } else {
-                1
-            }
-        }
+    match (*second as u32 + *third as u32) % 32 {
+        15 => 1,
+        7 => 2,
+        19 => 3,
+        2 => 4,
+        26 => 5,
+        3 => 6,
+        1 => 7,
+        28 => 8,
+        21 => 9,
+        23 => 10,
+        5 => 11,
+        _ => 12,
     }
 }
 
@@ -76,7 +66,7 @@ fn month_up_to(form: NameForm, case: ReadCase, last: u8, text: &[u8]) -> Option<
 
 // The name of a day of the week. Its second and its third letter tell which name alone it can be.
 #[tactic(auto, using(crate::proofs::LikelyNameLemmas::likely_weekday))]
-#[inline(never)]
+#[inline(always)]
 pub(crate) fn weekday(form: NameForm, case: ReadCase, text: &[u8]) -> Option<(u32, &[u8])>
     ensures value { option_map (λ read. (read.0, read.1.now)) result
         ≡ weekday_at form case 7 text.now }
@@ -90,26 +80,21 @@ pub(crate) fn weekday(form: NameForm, case: ReadCase, text: &[u8]) -> Option<(u3
     }
 }
 
-// The only day of the week whose name can begin so.
+// The only day of the week whose name can begin so. Each name has a sum of its own, whatever the case of the letters is.
 fn likely_weekday(text: &[u8]) -> u8
     ensures { result < 7 }
 {
     let [_, second, third, ..] = text else {
         return 0;
     };
-    match third.to_ascii_lowercase() {
-        b'e' => 1,
-        b'd' => 2,
-        b'u' => 3,
-        b'i' => 4,
-        b't' => 5,
-        _ => {
-            if second.to_ascii_lowercase() == b'u' {
-                6
-            } else {
-                0
-            }
-        }
+    match (*second as u32 + *third as u32 * 2) % 16 {
+        11 => 0,
+        15 => 1,
+        13 => 2,
+        2 => 3,
+        4 => 4,
+        9 => 5,
+        _ => 6,
     }
 }
 

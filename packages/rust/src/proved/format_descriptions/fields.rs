@@ -2,7 +2,7 @@
 //! The number of each component, read from the front of a text.
 use crate::proved::format_descriptions::fractions::{after_digits, fraction, read_digits};
 use crate::proved::format_descriptions::reading::{
-    after_word, digit, four, more, sign, three, two, two_digits,
+    after_word, digit, four, more, sign, three, two, two_digits, year,
 };
 use crate::proved::format_descriptions::words::{month, period, weekday, weekday_number};
 use crate::proved::format_descriptions::{Component, Padding, Sign, YearRange};
@@ -92,7 +92,7 @@ const fn unsigned(number: u32, rest: &[u8]) -> Option<((bool, u32), &[u8])> {
     Some(((false, number), rest))
 }
 
-// A year: four digits without a sign, or a sign and four digits or more.
+// A year: four digits without a sign, or a sign and four digits or more. Most texts have four digits.
 /// # Contract
 ///
 /// ```text
@@ -105,6 +105,33 @@ const fn unsigned(number: u32, rest: &[u8]) -> Option<((bool, u32), &[u8])> {
 /// [docs/proofs/STATEMENT.md](crate::proved#contracts) explains the words.
 #[inline(always)]
 pub(crate) fn signed_year(
+    sign_given: Sign,
+    padding: Padding,
+    range: YearRange,
+    text: &[u8],
+) -> Option<((bool, u32), &[u8])> {
+    match year(text) {
+        Some((number, rest)) => match sign_given {
+            Sign::Automatic => unsigned(number, rest),
+            Sign::Mandatory => None,
+        },
+        None => year_after_sign(sign_given, padding, range, text),
+    }
+}
+
+// The same of any year.
+/// # Contract
+///
+/// ```text
+/// ensures value { option_map (λ read. (read.0, read.1.now)) result
+///     ≡ signed_year_at sign_given padding range text.now }
+/// ensures below { IfSome result (λ read. read.0.1 ≤ 1_000_000_000) }
+/// ensures shorter { IfSome result (λ read. length read.1.now ≤ length text.now) }
+/// ```
+///
+/// [docs/proofs/STATEMENT.md](crate::proved#contracts) explains the words.
+#[inline(never)]
+fn year_after_sign(
     sign_given: Sign,
     padding: Padding,
     range: YearRange,

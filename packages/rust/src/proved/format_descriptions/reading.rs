@@ -2,7 +2,7 @@
 //! Numbers, names and signs, read from the front of a text.
 use crate::proved::format_descriptions::{Padding, ReadCase, YearRange};
 
-// A number of two digits, or of one, by its padding.
+// A number of two digits, or of one, by its padding. Two digits are read whatever the padding is.
 /// # Contract
 ///
 /// ```text
@@ -14,9 +14,9 @@ use crate::proved::format_descriptions::{Padding, ReadCase, YearRange};
 /// [docs/proofs/STATEMENT.md](crate::proved#contracts) explains the words.
 #[inline(always)]
 pub(crate) fn two(padding: Padding, text: &[u8]) -> Option<(u32, &[u8])> {
-    match padding {
-        Padding::Zero => two_digits(text),
-        Padding::Space | Padding::Bare => two_padded(padding, text),
+    match two_digits(text) {
+        Some((number, rest)) => Some((number, rest)),
+        None => two_padded(padding, text),
     }
 }
 
@@ -90,7 +90,7 @@ fn digit_more(number: u32, text: &[u8]) -> (u32, &[u8]) {
     }
 }
 
-// A number of four digits, or of fewer, by its padding.
+// A number of four digits, or of fewer, by its padding. Four digits are read whatever the padding is.
 /// # Contract
 ///
 /// ```text
@@ -102,9 +102,9 @@ fn digit_more(number: u32, text: &[u8]) -> (u32, &[u8]) {
 /// [docs/proofs/STATEMENT.md](crate::proved#contracts) explains the words.
 #[inline(always)]
 pub(crate) fn four(padding: Padding, text: &[u8]) -> Option<(u32, &[u8])> {
-    match padding {
-        Padding::Zero => year(text),
-        Padding::Space | Padding::Bare => four_padded(padding, text),
+    match year(text) {
+        Some((number, rest)) => Some((number, rest)),
+        None => four_padded(padding, text),
     }
 }
 
@@ -118,7 +118,7 @@ pub(crate) fn four(padding: Padding, text: &[u8]) -> Option<(u32, &[u8])> {
 /// ```
 ///
 /// [docs/proofs/STATEMENT.md](crate::proved#contracts) explains the words.
-#[inline]
+#[inline(never)]
 fn four_padded(padding: Padding, text: &[u8]) -> Option<(u32, &[u8])> {
     match padding {
         Padding::Zero => year(text),
@@ -166,11 +166,23 @@ pub(crate) fn more(range: YearRange, number: u32, text: &[u8]) -> (u32, &[u8]) {
 /// ```
 ///
 /// [docs/proofs/STATEMENT.md](crate::proved#contracts) explains the words.
-#[inline]
-pub(crate) fn year(text: &[u8]) -> Option<(u32, &[u8])> {
-    let (century, text) = two_digits(text)?;
-    let (year, text) = two_digits(text)?;
-    Some((century * 100 + year, text))
+#[inline(always)]
+pub(crate) const fn year(text: &[u8]) -> Option<(u32, &[u8])> {
+    let [first, second, third, fourth, rest @ ..] = text else {
+        return None;
+    };
+    if first.is_ascii_digit()
+        && second.is_ascii_digit()
+        && third.is_ascii_digit()
+        && fourth.is_ascii_digit()
+    {
+        Some((
+            number(*first, *second) * 100 + number(*third, *fourth),
+            rest,
+        ))
+    } else {
+        None
+    }
 }
 
 // Three digits.
@@ -205,7 +217,7 @@ pub(crate) const fn two_digits(text: &[u8]) -> Option<(u32, &[u8])> {
     let [tens, units, rest @ ..] = text else {
         return None;
     };
-    if tens.is_ascii_digit() & units.is_ascii_digit() {
+    if tens.is_ascii_digit() && units.is_ascii_digit() {
         Some((number(*tens, *units), rest))
     } else {
         None

@@ -4,7 +4,7 @@ use crate::proved::format_descriptions::names::{month_word, period_word, weekday
 use crate::proved::format_descriptions::reading::{after_word, digit};
 use crate::proved::format_descriptions::{Case, NameForm, ReadCase, WeekStart, WeekdayCount};
 
-// The name of a month. Its third letter, and one before it, tell which name alone it can be.
+// The name of a month. Its second and its third letter tell which name alone it can be.
 /// # Contract
 ///
 /// ```text
@@ -15,7 +15,7 @@ use crate::proved::format_descriptions::{Case, NameForm, ReadCase, WeekStart, We
 /// ```
 ///
 /// [docs/proofs/STATEMENT.md](crate::proved#contracts) explains the words.
-#[inline(never)]
+#[inline(always)]
 pub(crate) fn month(form: NameForm, case: ReadCase, text: &[u8]) -> Option<(u32, &[u8])> {
     let likely = likely_month(text);
     match after_word(case, month_word(form, likely), text) {
@@ -24,7 +24,7 @@ pub(crate) fn month(form: NameForm, case: ReadCase, text: &[u8]) -> Option<(u32,
     }
 }
 
-// The only month whose name can begin so.
+// The only month whose name can begin so. Each name has a sum of its own, whatever the case of the letters is.
 /// # Contract
 ///
 /// ```text
@@ -34,32 +34,22 @@ pub(crate) fn month(form: NameForm, case: ReadCase, text: &[u8]) -> Option<(u32,
 /// [docs/proofs/STATEMENT.md](crate::proved#contracts) explains the words.
 #[inline]
 const fn likely_month(text: &[u8]) -> u8 {
-    let [first, second, third, ..] = text else {
+    let [_, second, third, ..] = text else {
         return 1;
     };
-    match third.to_ascii_lowercase() {
-        b'b' => 2,
-        b'r' => {
-            if first.to_ascii_lowercase() == b'm' {
-                3
-            } else {
-                4
-            }
-        }
-        b'y' => 5,
-        b'l' => 7,
-        b'g' => 8,
-        b'p' => 9,
-        b't' => 10,
-        b'v' => 11,
-        b'c' => 12,
-        _ => {
-            if second.to_ascii_lowercase() == b'u' {
-                6
-            } else {
-                1
-            }
-        }
+    match (*second as u32 + *third as u32) % 32 {
+        15 => 1,
+        7 => 2,
+        19 => 3,
+        2 => 4,
+        26 => 5,
+        3 => 6,
+        1 => 7,
+        28 => 8,
+        21 => 9,
+        23 => 10,
+        5 => 11,
+        _ => 12,
     }
 }
 
@@ -97,7 +87,7 @@ fn month_up_to(form: NameForm, case: ReadCase, last: u8, text: &[u8]) -> Option<
 /// ```
 ///
 /// [docs/proofs/STATEMENT.md](crate::proved#contracts) explains the words.
-#[inline(never)]
+#[inline(always)]
 pub(crate) fn weekday(form: NameForm, case: ReadCase, text: &[u8]) -> Option<(u32, &[u8])> {
     let likely = likely_weekday(text);
     match after_word(case, weekday_word(form, likely), text) {
@@ -106,7 +96,7 @@ pub(crate) fn weekday(form: NameForm, case: ReadCase, text: &[u8]) -> Option<(u3
     }
 }
 
-// The only day of the week whose name can begin so.
+// The only day of the week whose name can begin so. Each name has a sum of its own, whatever the case of the letters is.
 /// # Contract
 ///
 /// ```text
@@ -119,19 +109,14 @@ const fn likely_weekday(text: &[u8]) -> u8 {
     let [_, second, third, ..] = text else {
         return 0;
     };
-    match third.to_ascii_lowercase() {
-        b'e' => 1,
-        b'd' => 2,
-        b'u' => 3,
-        b'i' => 4,
-        b't' => 5,
-        _ => {
-            if second.to_ascii_lowercase() == b'u' {
-                6
-            } else {
-                0
-            }
-        }
+    match (*second as u32 + *third as u32 * 2) % 16 {
+        11 => 0,
+        15 => 1,
+        13 => 2,
+        2 => 3,
+        4 => 4,
+        9 => 5,
+        _ => 6,
     }
 }
 
