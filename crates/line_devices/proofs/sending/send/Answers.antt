@@ -26,6 +26,6 @@ returns-in_err-flush-clause-kept g c =
 
 pub returns-clause-kept : goal.returns-clause-kept
 returns-clause-kept g c = on_fault _ _ _ c.write_whole.result c.write_whole.ensures.written (λ h. inr (
-    c.in_ok-flush.ensures.empty,
-    record { between = _; appended = c.in_ok-flush.ensures.written; beginning = h },
+  c.in_ok-flush.ensures.empty,
+  record { between = _; appended = c.in_ok-flush.ensures.written; beginning = h },
 ))
