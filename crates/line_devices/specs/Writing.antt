@@ -1,5 +1,5 @@
 -- The bytes of a text that were written, if the written bytes are known.
-use Rattle.std.specs.Prelude.{◌≡◌, ℕ, ◌<◌, Bool, true, List, ◌++◌, length, Option, Result, MatchResult}
+use Rattle.std.specs.Prelude.{◌≡◌, ◌⊎◌, ℕ, ◌<◌, Bool, true, List, [], ◌++◌, length, Option, Result, MatchResult}
 use Rattle.std.specs.Io.KnownBytes.{Appends}
 
 -- a beginning of the bytes was written, and not all of them
@@ -27,3 +27,13 @@ MarksFailure result old new = MatchResult result (λ _. new ≡ old) (λ _. new 
 -- the bytes were sent, or after a fault a beginning of them was written and not all
 abbrev pub SendsAll : {T E : Type 0} → Result T E → Option (List ℕ) → Option (List ℕ) → List ℕ → List ℕ → Type 0
 SendsAll result old new pending bytes = MatchResult result (λ _. Sends old new pending bytes) (λ _. AppendsBeginning old new bytes)
+
+-- all of some bytes were written, and a beginning of others after them and not all
+pub record AppendsFirst (old new : Option (List ℕ)) (first second : List ℕ) : Type 0 where
+  pub between : Option (List ℕ)
+  pub appended : Appends old between first
+  pub beginning : AppendsBeginning between new second
+
+-- after a fault the pending bytes stay, of which a beginning was written; or none is pending, and a beginning of the text was written after them
+abbrev pub StopsSending : Option (List ℕ) → Option (List ℕ) → List ℕ → List ℕ → List ℕ → Type 0
+StopsSending old new before after text = ((after ≡ before) × AppendsBeginning old new before) ⊎ ((after ≡ []) × AppendsFirst old new before text)

@@ -1,9 +1,10 @@
 //! Lists of instants of any type.
-ghost use Rattle.std.specs.Prelude.{◌≡◌, ◌≢◌, ◌↔◌, ◌⊎◌, ◌<ℤ◌, ◌≤ℤ◌, [], All, Contains, IfSome, IsNone, IsPermutation};
+ghost use Rattle.std.specs.Prelude.{◌≡◌, ◌≢◌, ◌↔◌, ◌⊎◌, ◌<ℤ◌, ◌≤ℤ◌, ℤ, [], All, Contains, IfSome, IsNone, IsPermutation};
 ghost use Rattle.std.specs.Prelude.{IsSorted, IsSortedByKey, IsTrue, OnErr, OnOk, Some};
 ghost use Rattle.std.specs.List.Sorted.{IsStrictlySortedBy};
 ghost use Rattle.std.specs.Ordering.{int_cmp, on};
 ghost use Rattle.stamp_times.specs.Logs.{ContainsByKey, last_by_key};
+ghost use Rattle.uses.specs.Logs.{IsOfEither};
 
 use stamp_times::{Moment, moment_logs};
 use std::alloc::AllocError;
@@ -83,7 +84,8 @@ pub fn is_news(log: &[UtcDateTime], at: UtcDateTime) -> bool
     moment_logs::last(log).is_none_or(|last| last < at)
 }
 
-/// Puts date-times of two lists in order, each instant once, and removes one.
+/// Puts date-times of two lists in order, each instant once, and removes one. `AllocError`, with
+/// the log as before, if there is no memory for them or to sort them.
 pub fn join_without(
     log: &mut Vec<UtcDateTime>,
     other: &[UtcDateTime],
@@ -92,8 +94,41 @@ pub fn join_without(
     ensures in_order { OnOk result (IsStrictlySortedBy int_cmp log.new.items) }
     ensures sorted { OnOk result (IsSorted int_cmp log.new.items) }
     ensures gone { OnOk result (¬ Contains log.new.items at) }
+    ensures kept { OnOk result ((entry : ℤ) → Contains log.old.items entry → entry ≢ at →
+        Contains log.new.items entry) }
+    ensures entered { OnOk result ((entry : ℤ) → Contains other.now entry → entry ≢ at →
+        Contains log.new.items entry) }
+    ensures no_other { (entry : ℤ) → Contains log.new.items entry →
+        IsOfEither log.old.items other.now entry }
+    ensures unchanged { OnErr result (log.new.items ≡ log.old.items) }
 {
-    moment_logs::merge(log, other)?;
-    moment_logs::remove(log, at);
+    join(log, other)?;
+    take_out(log, at);
     Ok(())
+}
+
+// Adds the date-times of another list, puts all in order, and leaves each instant once.
+#[tactic(auto, unfolding(crate::specs::Logs::IsOfEither))]
+fn join(log: &mut Vec<UtcDateTime>, other: &[UtcDateTime]) -> Result<(), AllocError>
+    ensures in_order { OnOk result (IsStrictlySortedBy int_cmp log.new.items) }
+    ensures kept { (entry : ℤ) → Contains log.old.items entry → Contains log.new.items entry }
+    ensures entered { OnOk result ((entry : ℤ) → Contains other.now entry →
+        Contains log.new.items entry) }
+    ensures no_other { (entry : ℤ) → Contains log.new.items entry →
+        IsOfEither log.old.items other.now entry }
+    ensures unchanged { OnErr result (log.new.items ≡ log.old.items) }
+{
+    moment_logs::merge(log, other)
+}
+
+// Removes a date-time from a log that has each instant once.
+fn take_out(log: &mut Vec<UtcDateTime>, at: UtcDateTime)
+    requires { IsStrictlySortedBy int_cmp log.old.items }
+    ensures in_order { IsStrictlySortedBy int_cmp log.new.items }
+    ensures gone { ¬ Contains log.new.items at }
+    ensures kept { (entry : ℤ) → Contains log.old.items entry → entry ≢ at →
+        Contains log.new.items entry }
+    ensures no_other { (entry : ℤ) → Contains log.new.items entry → Contains log.old.items entry }
+{
+    moment_logs::remove(log, at);
 }

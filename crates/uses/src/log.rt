@@ -115,12 +115,19 @@ pub fn take_in(log: &mut Vec<Timestamp>, other: &[Timestamp]) -> Result<(), Allo
 }
 
 /// Adds the entries of another log, and puts all in order; an instant of both stays twice.
+/// `AllocError`, with the log as before, if there is no memory for them or to sort them.
 pub fn gather(log: &mut Vec<Timestamp>, other: &[Timestamp]) -> Result<(), AllocError>
     ensures in_order { OnOk result (IsSorted int_cmp log.new.items) }
     ensures same_entries { OnOk result (IsPermutation (log.old.items ++ other.now) log.new.items) }
+    ensures unchanged { OnErr result (log.new.items ≡ log.old.items) }
 {
+    let before = log.len();
     log.extend_from_slice(other)?;
-    log.sort()
+    let in_order = log.sort();
+    if in_order.is_err() {
+        log.truncate(before);
+    }
+    in_order
 }
 
 /// Whether an instant is after every entry of a log in order.
