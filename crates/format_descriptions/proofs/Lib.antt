@@ -34,6 +34,7 @@ mod SpelledComponentLemmas
 mod SpelledApartLemmas
 mod SpelledLemmas
 mod ChoiceLemmas
+mod FrontSpelledLemmas
 mod WrittenChoiceLemmas
 mod BeginLemmas
 mod SeparateLemmas
