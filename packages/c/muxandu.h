@@ -794,10 +794,10 @@ MuxanduOutcome muxandu_description_parse(uint32_t version, const char *MUXANDU_R
                                          size_t items_count);
 
 /* Writes the text of items as a description in version 1 or 2 of its language to the front of
- * 'buffer'. 'size' is its length. muxandu_description_parse reads it back as the same items.
- * Errors, in this order: UNIT if the version is neither 1 nor 2. UNIT if a number is no item, or
- * for more than 128 items. NO_TEXT or BUFFER, with the index of the item and the reason. After
- * UNIT the call writes nothing. After the other errors it can have changed 'buffer'. */
+ * 'buffer'. 'size' is its length. muxandu_description_parse reads it back as the same items. It
+ * has at most 10,241 bytes. Errors, in this order: UNIT if the version is neither 1 nor 2. UNIT
+ * if a number is no item, or for more than 128 items. NO_TEXT or BUFFER, with the index of the
+ * item and the reason. After an error 'buffer' is unchanged. */
 MuxanduOutcome muxandu_description_text(uint32_t version, const MuxanduItem *MUXANDU_RESTRICT items,
                                         size_t items_count, char *MUXANDU_RESTRICT buffer,
                                         size_t buffer_count);

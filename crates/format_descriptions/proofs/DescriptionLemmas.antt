@@ -1,9 +1,11 @@
 -- The items of a description, one after another.
 use Rattle.std.proofs.Common.{◌≡◌, ℕ, suc, true, false, ◌+◌, List, [], ◌∷◌, ◌++◌, length, refl, sym, append_assoc, append-nil, arith}
+use Rattle.std.proofs.Common.{◌≤◌, take, drop}
+use Rattle.std.proofs.lemmas.List.{length-take-le, take-append-drop}
 use Rattle.std.proofs.Common.{Option, Some, None, Result, Ok, Err}
 use Rattle.format_descriptions.specs.DescriptionGroups.{group_step, group_fault_at_end, unsized_step, ends_group, item_count, group_size}
 use Rattle.format_descriptions.specs.DescriptionSteps.{Fault}
-use Rattle.format_descriptions.specs.Descriptions.{items_from, item_before, end_of_items}
+use Rattle.format_descriptions.specs.Descriptions.{items_from, item_before, end_of_items, items_before_fault}
 use Rattle.format_descriptions.specs.declared.description_refusal.DescriptionFault.TheVariants.{NoRoom}
 use Rattle.format_descriptions.specs.declared.description_steps.DescriptionVersion.{DescriptionVersion}
 use Rattle.format_descriptions.specs.declared.description_groups.State.{State}
@@ -106,3 +108,58 @@ pub size_none : (v : DescriptionVersion) (groups size : ℕ) (s : State) (rest :
 unfolding group_size
 size_none v groups size s [] all so none = omega (arith, so)
 size_none v groups size s (first ∷ rest) all so none = absurd (omega (arith, none))
+
+-- ---- the items before a fault
+
+-- a step without an item
+pub first_on : (v : DescriptionVersion) (n first : ℕ) (p : State) (r : State × Option Item) (rest text : List ℕ) (before all : List Item)
+    → before ++ items_before_fault v n p rest ≡ all → rest ≡ first ∷ text → Ok r ≡ group_step v p first rest text → r.1 ≡ None
+    → before ++ items_before_fault v n r.0 text ≡ all
+unfolding items_before_fault
+first_on v n first p r rest text before all so front is none =
+    let read : Ok r ≡ group_step v p first (first ∷ text) text = rw (← front) is in rw (front, ← read, none) at so
+
+-- a step with an item, in a room that has a place for it
+pub first_item : (v : DescriptionVersion) (n more first : ℕ) (p : State) (r : State × Option Item) (item : Item) (rest text : List ℕ)
+    (before all : List Item)
+    → before ++ items_before_fault v n p rest ≡ all → rest ≡ first ∷ text → Ok r ≡ group_step v p first rest text → r.1 ≡ Some item → n ≡ suc more
+    → (before ++ item ∷ []) ++ items_before_fault v more r.0 text ≡ all
+unfolding items_before_fault
+first_item v n more first p r item rest text before all so front is some place =
+    let read : Ok r ≡ group_step v p first (first ∷ text) text = rw (← front) is in
+    let same : before ++ item ∷ items_before_fault v more r.0 text ≡ all = rw (front, place, ← read, some) at so in
+    rw (append_assoc before (item ∷ []) (items_before_fault v more r.0 text)) same
+
+-- a step with an item, in a room that has no place
+pub first_full : (v : DescriptionVersion) (n first : ℕ) (p : State) (r : State × Option Item) (item : Item) (rest text : List ℕ)
+    (before all : List Item)
+    → before ++ items_before_fault v n p rest ≡ all → rest ≡ first ∷ text → Ok r ≡ group_step v p first rest text → r.1 ≡ Some item → n ≡ 0
+    → before ≡ all
+unfolding items_before_fault
+first_full v n first p r item rest text before all so front is some full =
+    let read : Ok r ≡ group_step v p first (first ∷ text) text = rw (← front) is in
+    let same : before ++ [] ≡ all = rw (front, full, ← read, some) at so in
+    rw append-nil at same
+
+-- a fault
+pub first_fault : (v : DescriptionVersion) (n first : ℕ) (p : State) (fault : Fault) (rest text : List ℕ) (before all : List Item)
+    → before ++ items_before_fault v n p rest ≡ all → rest ≡ first ∷ text → Err fault ≡ group_step v p first rest text → before ≡ all
+unfolding items_before_fault
+first_fault v n first p fault rest text before all so front is =
+    let read : Err fault ≡ group_step v p first (first ∷ text) text = rw (← front) is in
+    let same : before ++ [] ≡ all = rw (front, ← read) at so in
+    rw append-nil at same
+
+-- the end
+pub first_end : (v : DescriptionVersion) (n : ℕ) (p : State) (rest : List ℕ) (before all : List Item)
+    → before ++ items_before_fault v n p rest ≡ all → length rest ≡ 0 → before ≡ all
+unfolding items_before_fault
+first_end v n p [] before all so none = rw append-nil at so
+first_end v n p (first ∷ rest) before all so none = absurd (omega (arith, none))
+
+-- the items that were put at the front of a room
+pub room_with : (count : ℕ) (room old all : List Item) → take count room ≡ all → count ≤ length room → drop count room ≡ drop count old
+    → room ≡ all ++ drop (length all) old
+room_with count room old all same fits others =
+    let size = length-take-le count room fits in
+    rw (← same, size, ← others) (sym (take-append-drop count room))

@@ -35,6 +35,7 @@ mod SpelledComponentLemmas
 mod SpelledApartLemmas
 mod SpelledLemmas
 mod ChoiceLemmas
+mod FrontSpelledLemmas
 mod WrittenChoiceLemmas
 mod BeginLemmas
 mod SeparateLemmas

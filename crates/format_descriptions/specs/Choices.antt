@@ -57,6 +57,11 @@ pub record TextsSpellChoices : Type 0 where
       → (chosen : List Item) × IsChoice false items chosen × IsTrue (has_no_group chosen) × Spells chosen text p q
   pub written : (items : List Item) → IsChoice false items (written_items items)
 
+-- what items read at the front of a text spells a choice of them, and the rest of the text follows it
+pub record FrontsSpellChoices : Type 0 where
+  pub read : (items : List Item) (text rest : List ℕ) (p q : Parts) → front_of items text p ≡ Ok (q, rest)
+      → (chosen : List Item) × (front : List ℕ) × IsChoice false items chosen × (text ≡ front ++ rest) × Spells chosen front p q
+
 -- what is read of a text is what the choice reads that is taken: at each group the first of its choices that reads the text
 -- there; and what a choice reads that is taken is read
 pub record FirstChoicesAreTaken : Type 0 where

@@ -39,6 +39,27 @@ items_from version room s (first ∷ text) =
 abbrev pub items_of_description : DescriptionVersion → ℕ → List ℕ → Result (List Item) Fault
 items_of_description version room text = items_from version room at_front text
 
+-- the item of a step, if it has one and there is room for it, and those of the next steps
+abbrev pub within_room : ℕ → (ℕ → List Item) → Option Item → List Item
+within_room room next None = next room
+within_room zero next (Some item) = []
+within_room (suc room) next (Some item) = item ∷ next room
+
+-- the item of a step and those of the next steps, or none if it has a fault
+abbrev pub unless_step_fails : ℕ → (State → ℕ → List Item) → GroupStep → List Item
+unless_step_fails room next (Err fault) = []
+unless_step_fails room next (Ok read) = within_room room (next read.0) read.1
+
+-- the items of a text from this state on that come before its first fault, `room` of them at most
+unfoldable pub items_before_fault : DescriptionVersion → ℕ → State → List ℕ → List Item
+items_before_fault version room s [] = []
+items_before_fault version room s (first ∷ text) =
+    unless_step_fails room (λ next more. items_before_fault version more next text) (group_step version s first (first ∷ text) text)
+
+-- the items of a text that come before its first fault, `room` of them at most: all of them if it has no fault
+abbrev pub first_items : DescriptionVersion → ℕ → List ℕ → List Item
+first_items version room text = items_before_fault version room at_front text
+
 -- a fault by its place from the front
 abbrev pub refusal_of : List ℕ → Fault → DescriptionRefusal
 refusal_of text fault = record { place = length text - fault.1; fault = fault.0 }

@@ -37,5 +37,6 @@ pub mod Descriptions
 pub mod ModifierTexts
 pub mod DescriptionTexts
 pub mod DescriptionLaws
+pub mod SourceLengthLemmas
 pub mod Words
 pub mod Callers

@@ -117,6 +117,7 @@ unfoldable pub use Rattle.rfc3339.specs.Walls.{wall_text}
 pub use Rattle.rfc3339.specs.declared.parts.Parts.{Parts}
 pub use Rattle.rfc3339.specs.declared.refusal.Component.TheVariants.{Day, Hour, Minute, Month, OffsetHour, OffsetMinute, Second}
 pub use Rattle.rfc3339.specs.declared.refusal.TextRefusal.TheVariants.{OutOfRange, Syntax}
+pub use Rattle.format_descriptions.specs.Choices.{IsChoice}
 pub use Rattle.format_descriptions.specs.ClockValues.{or_zero, tells_time}
 unfoldable pub use Rattle.format_descriptions.specs.ClockValues.{clock_at, clock_of_half, time_of_parts}
 pub use Rattle.format_descriptions.specs.DateTimeValues.{HasLocalParts, HasPlainParts, IsLeapStandIn, is_leap_stand_in, is_sixty, leap_outcome}
@@ -144,7 +145,7 @@ unfoldable pub use Rattle.format_descriptions.specs.DescriptionValues.{read_case
 unfoldable pub use Rattle.format_descriptions.specs.DescriptionValues.{year_repr_at}
 pub use Rattle.format_descriptions.specs.DescriptionWords.{is_white_space}
 unfoldable pub use Rattle.format_descriptions.specs.DescriptionWords.{ends_word, is_word_at, name_rest}
-pub use Rattle.format_descriptions.specs.Descriptions.{items_of_description, refusal_of}
+pub use Rattle.format_descriptions.specs.Descriptions.{first_items, items_of_description, refusal_of}
 pub use Rattle.format_descriptions.specs.Groups.{fault_after, is_other, size_of}
 unfoldable pub use Rattle.format_descriptions.specs.Groups.{written_from}
 pub use Rattle.format_descriptions.specs.InstantValues.{HasInstantParts, instant_at, or_no_count, unix_nanoseconds}
@@ -173,6 +174,7 @@ pub use Rattle.format_descriptions.specs.Reading.{digit_more, end_at, ignored_at
 unfoldable pub use Rattle.format_descriptions.specs.Reading.{counted_at, decimal_at, digits_on, four_at, letter_at, month_at, more_at, past_digits}
 unfoldable pub use Rattle.format_descriptions.specs.Reading.{period_at, sign_at, signed_century_at, signed_hours_at, signed_year_at, six_at, three_at}
 unfoldable pub use Rattle.format_descriptions.specs.Reading.{three_digits_at, two_at, unix_at, weekday_at, weekday_number_at, word_at, year_since_at}
+pub use Rattle.format_descriptions.specs.Spelled.{Spells}
 pub use Rattle.format_descriptions.specs.Values.{HasDateParts, calendar_year, day_in_iso_year, day_with, iso_year, tells_date, year_known}
 unfoldable pub use Rattle.format_descriptions.specs.Values.{date_of_parts, day_in_year, iso_day, month_day, week_day, week_ordinal, wrong_date}
 unfoldable pub use Rattle.format_descriptions.specs.Values.{wrong_day, wrong_week, wrong_year, year_day}

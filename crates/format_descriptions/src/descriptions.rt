@@ -1,7 +1,7 @@
 //! Descriptions that texts give.
 ghost use Rattle.std.specs.Prelude.{◌≡◌, ◌++◌, ◌-◌, ℕ, List, Ok, Err, length, drop, IfOk, IfErr};
 ghost use Rattle.std.specs.Result.{result_map_both};
-ghost use Rattle.format_descriptions.specs.Descriptions.{items_of_description, refusal_of};
+ghost use Rattle.format_descriptions.specs.Descriptions.{items_of_description, first_items, refusal_of};
 ghost use Rattle.format_descriptions.specs.declared.item.Item.{Item};
 
 use crate::description_groups::{at_front, group_fault_at_end, group_step};
@@ -10,7 +10,7 @@ use crate::{DescriptionFault, DescriptionRefusal, Item};
 
 /// How many items a text has as a description. They are put at the front of `room`, whose others do
 /// not change. Else why the text is no description, and where: its first fault, which `NoRoom` is
-/// too.
+/// too. Then the front of `room` has the items before the fault.
 ///
 /// ```
 /// use format_descriptions::{DescriptionVersion, Item, parse_description};
@@ -29,6 +29,8 @@ pub fn parse_description(
         (items_of_description version (length room.old) text.now) }
     ensures items { IfOk (items_of_description version (length room.old) text.now)
         (λ items. room.new ≡ items ++ drop (length items) room.old) }
+    ensures room { let first = first_items version (length room.old) text.now in
+        room.new ≡ first ++ drop (length first) room.old }
     // What the text says, by the result.
     ensures read { IfOk result (λ count. (items : List Item) ×
         (items_of_description version (length room.old) text.now ≡ Ok items) ×

@@ -1,6 +1,6 @@
 //! Laws of descriptions. Each function here proves a law, and does nothing when it is called.
 ghost use Rattle.format_descriptions.specs.CaseLaws.{AnyCaseReadsTheSame};
-ghost use Rattle.format_descriptions.specs.Choices.{TextsSpellChoices, FirstChoicesAreTaken};
+ghost use Rattle.format_descriptions.specs.Choices.{TextsSpellChoices, FrontsSpellChoices, FirstChoicesAreTaken};
 ghost use Rattle.format_descriptions.specs.DescriptionLaws.{WrittenDescriptionsReadBack};
 ghost use Rattle.format_descriptions.specs.DirectReading.{Rfc3339IsADescription};
 ghost use Rattle.format_descriptions.specs.Laws.{DisplaysAreDescriptions, FixedTextsAreDescriptions};
@@ -58,6 +58,12 @@ pub fn texts_are_read_as_spelled()
 /// place. The items that a description writes are a choice too.
 pub fn texts_spell_choices()
     ensures { TextsSpellChoices }
+{}
+
+/// A description reads a front of a text only if the front spells a choice of its items, and the
+/// rest of the text follows it.
+pub fn fronts_spell_choices()
+    ensures { FrontsSpellChoices }
 {}
 
 /// A description reads what the choice reads that it takes. It takes each group that reads the text

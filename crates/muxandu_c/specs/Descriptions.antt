@@ -104,6 +104,11 @@ source_in (Some v) room numbers = then_with (as_fault (items_of numbers)) (λ it
 abbrev pub source_of : ℕ → ℕ → List MuxanduItem → Result (List ℕ) Fault
 source_of version room numbers = source_in (version_numbered version) room numbers
 
+-- the bytes in a buffer after a call: the text at the front, or the old bytes after an error
+abbrev pub source_over : Result (List ℕ) Fault → List ℕ → List ℕ
+source_over (Ok text) there = text ++ drop (length text) there
+source_over (Err fault) there = there
+
 -- ---- calls with many values
 
 -- the values, if the numbers are items

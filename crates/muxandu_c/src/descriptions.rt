@@ -1,10 +1,9 @@
 //! Format descriptions: their texts, and their items.
-ghost use Rattle.std.specs.Prelude.{◌≡◌, ◌≢◌, ◌≤◌, ◌++◌, length, take, drop, map, IfErr, IfOk, Ok, Err};
+ghost use Rattle.std.specs.Prelude.{◌≡◌, ◌≤◌, ◌++◌, length, take, drop, map, IfOk, Ok, Err};
 ghost use Rattle.muxandu_c.specs.DescriptionItems.{numbers_of_item};
 ghost use Rattle.muxandu_c.specs.Descriptions.{version_numbered, described_items, numbered_in_room, numbers_over};
-ghost use Rattle.muxandu_c.specs.Descriptions.{item_or_refused, items_of, source_of, source_of_items, refused_items};
+ghost use Rattle.muxandu_c.specs.Descriptions.{item_or_refused, items_of, source_of, source_of_items, source_over, refused_items};
 ghost use Rattle.muxandu_c.specs.Outcomes.{outcome_of, size_of};
-ghost use Rattle.muxandu_c.specs.declared.refused.Refused.TheVariants as refused;
 
 use crate::batches::{Conversion, fill};
 use crate::description_items::{MuxanduItem, item_of, numbers_of_item};
@@ -17,6 +16,9 @@ use format_descriptions::{
 
 /// The most items of a description.
 pub const MUXANDU_DESCRIPTION_ROOM: usize = 128;
+
+// The most bytes of the text of a description: 80 for each item, and one more.
+const SOURCE_ROOM: usize = 10_241;
 
 // The version of this number.
 fn version_numbered(number: u32) -> Option<DescriptionVersion>
@@ -131,9 +133,9 @@ pub extern "C" fn muxandu_description_parse(
 
 /// Writes the text of items as a description in version 1 or 2 of its language to the front of
 /// `buffer`. `size` is its length. muxandu_description_parse reads it back as the same items.
-/// Errors, in this order: UNIT if the version is neither 1 nor 2. UNIT if a number is no item, or
-/// for more than 128 items. NO_TEXT or BUFFER, with the index of the item and the reason. After
-/// UNIT the call writes nothing. After the other errors it can have changed `buffer`.
+/// It has at most 10,241 bytes. Errors, in this order: UNIT if the version is neither 1 nor 2. UNIT
+/// if a number is no item, or for more than 128 items. NO_TEXT or BUFFER, with the index of the
+/// item and the reason. After an error `buffer` is unchanged.
 #[unsafe(no_mangle)]
 pub extern "C" fn muxandu_description_text(
     version: u32,
@@ -142,10 +144,10 @@ pub extern "C" fn muxandu_description_text(
 ) -> MuxanduOutcome
     ensures outcome { result ≡
         outcome_of (size_of (source_of version (length buffer.old) items.now)) }
-    ensures written { IfOk (source_of version (length buffer.old) items.now)
-        (λ text. buffer.new ≡ text ++ drop (length text) buffer.old) }
-    ensures unit { IfErr (source_of version (length buffer.old) items.now)
-        (λ fault. fault.refused ≡ refused.Unit → buffer.new ≡ buffer.old) }
+    ensures written { buffer.new ≡
+        source_over (source_of version (length buffer.old) items.now) buffer.old }
+    ensures room { IfOk (source_of version (length buffer.old) items.now)
+        (λ text. length text ≤ 10_241) }
 {
     outcome_of(write_source(version, items, buffer))
 }
@@ -153,10 +155,10 @@ pub extern "C" fn muxandu_description_text(
 // Puts the text of items at the front of a buffer, and says how long it is.
 fn write_source(version: u32, items: &[MuxanduItem], buffer: &mut [u8]) -> Result<usize, Fault>
     ensures size { result ≡ size_of (source_of version (length buffer.old) items.now) }
-    ensures written { IfOk (source_of version (length buffer.old) items.now)
-        (λ text. buffer.new ≡ text ++ drop (length text) buffer.old) }
-    ensures unit { IfErr (source_of version (length buffer.old) items.now)
-        (λ fault. fault.refused ≡ refused.Unit → buffer.new ≡ buffer.old) }
+    ensures written { buffer.new ≡
+        source_over (source_of version (length buffer.old) items.now) buffer.old }
+    ensures room { IfOk (source_of version (length buffer.old) items.now)
+        (λ text. length text ≤ 10_241) }
 {
     let Some(version) = version_numbered(version) else {
         return Err(plain_fault(Refused::Unit));
@@ -168,19 +170,26 @@ fn write_source(version: u32, items: &[MuxanduItem], buffer: &mut [u8]) -> Resul
     }
 }
 
+// Puts the text of at most 128 items at the front of a buffer, if it has one that fits.
 fn write_items(
     version: DescriptionVersion,
     items: &[Item],
     buffer: &mut [u8],
 ) -> Result<usize, Fault>
+    requires { length items.now ≤ 128 }
     ensures size { result ≡ size_of (source_of_items version (length buffer.old) items.now) }
-    ensures written { IfOk (source_of_items version (length buffer.old) items.now)
-        (λ text. buffer.new ≡ text ++ drop (length text) buffer.old) }
-    ensures no_unit { IfErr (source_of_items version (length buffer.old) items.now)
-        (λ fault. fault.refused ≢ refused.Unit) }
+    ensures written { buffer.new ≡
+        source_over (source_of_items version (length buffer.old) items.now) buffer.old }
+    ensures room { IfOk (source_of_items version (length buffer.old) items.now)
+        (λ text. length text ≤ 10_241) }
 {
-    match write_description(version, items, buffer) {
-        Ok(size) => Ok(size),
+    let mut text = [0; SOURCE_ROOM];
+    let room = buffer.len().min(SOURCE_ROOM);
+    match write_description(version, items, &mut text[..room]) {
+        Ok(size) => {
+            buffer[..size].copy_from_slice(&text[..size]);
+            Ok(size)
+        }
         Err(refusal) => Err(Fault {
             place: refusal.place,
             refused: refused_items(refusal.fault),
@@ -191,8 +200,7 @@ fn write_items(
 
 // The error of items that have no text.
 fn refused_items(fault: ItemFault) -> Refused
-    ensures value { result ≡ refused_items fault }
-    ensures no_unit { result ≢ refused.Unit }
+    ensures { result ≡ refused_items fault }
 {
     match fault {
         ItemFault::NoRoom => Refused::Buffer,

@@ -4,5 +4,6 @@
 
 pub mod log_stamps;
 pub mod patterns;
+pub mod reused_parts;
 pub mod written_patterns;
 pub mod wrong_parts;

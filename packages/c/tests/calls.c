@@ -182,6 +182,14 @@ static int is_outcome(MuxanduOutcome found, size_t size, uint32_t status, uint32
     return found.size == size && (uint32_t)found.status == status && (uint32_t)found.reason == reason;
 }
 
+/* Whether each byte of a buffer is this one. */
+static int is_filled(const char *buffer, size_t size, char byte) {
+    size_t k;
+    for (k = 0; k < size; k++)
+        if (buffer[k] != byte) return 0;
+    return 1;
+}
+
 static const char DAY_FORM[] = "[year]-[month]-[day]";
 
 static void descriptions_are_kept(void) {
@@ -193,10 +201,17 @@ static void descriptions_are_kept(void) {
     CHECK(items[5].kind == 0);
     CHECK(is_outcome(muxandu_description_text(2, items, 5, text, sizeof text), 20, MUXANDU_OK, 0));
     CHECK(memcmp(text, "[year]-[month]-[day]!", 21) == 0);
+    memset(text, '!', sizeof text);
     CHECK(
         is_outcome(muxandu_description_text(2, items, 5, text, 19), 4, MUXANDU_REFUSED_BUFFER, MUXANDU_REASON_NO_ROOM));
     CHECK(is_outcome(muxandu_description_text(2, items, 6, text, 40), 0, MUXANDU_REFUSED_UNIT, 0));
     CHECK(is_outcome(muxandu_description_text(3, items, 5, text, 40), 0, MUXANDU_REFUSED_UNIT, 0));
+    /* an item of logs, which no text names, after items that have one */
+    items[5].kind = 28;
+    CHECK(
+        is_outcome(muxandu_description_text(2, items, 6, text, 40), 5, MUXANDU_REFUSED_NO_TEXT, MUXANDU_REASON_NO_TEXT));
+    items[5].kind = 0;
+    CHECK(is_filled(text, sizeof text, '!'));
     CHECK(is_outcome(muxandu_description_parse(2, DAY_FORM, strlen(DAY_FORM), items, 4), 5, MUXANDU_REFUSED_BUFFER, 0));
     CHECK(is_outcome(muxandu_description_parse(2, "[year]-[mont]", 13, items, 8), 8, MUXANDU_REFUSED_SYNTAX,
                      MUXANDU_REASON_UNKNOWN_COMPONENT));

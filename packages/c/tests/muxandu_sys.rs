@@ -702,9 +702,9 @@ unsafe extern "C" {
     pub unsafe fn muxandu_description_parse(version: u32, text: *const u8, text_count: usize, items: *mut MuxanduItem, items_count: usize) -> MuxanduOutcome;
     /// Writes the text of items as a description in version 1 or 2 of its language to the front of
     /// `buffer`. `size` is its length. muxandu_description_parse reads it back as the same items.
-    /// Errors, in this order: UNIT if the version is neither 1 nor 2. UNIT if a number is no item,
-    /// or for more than 128 items. NO_TEXT or BUFFER, with the index of the item and the reason.
-    /// After UNIT the call writes nothing. After the other errors it can have changed `buffer`.
+    /// It has at most 10,241 bytes. Errors, in this order: UNIT if the version is neither 1 nor 2.
+    /// UNIT if a number is no item, or for more than 128 items. NO_TEXT or BUFFER, with the index
+    /// of the item and the reason. After an error `buffer` is unchanged.
     pub unsafe fn muxandu_description_text(version: u32, items: *const MuxanduItem, items_count: usize, buffer: *mut u8, buffer_count: usize) -> MuxanduOutcome;
     /// Writes the RFC 3339 text of a date-time with `digits` digits of the fraction, in at most 35
     /// bytes, as muxandu_date_time_text does. With three it is `1985-04-12T23:20:50.520Z`. The call

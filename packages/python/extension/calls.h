@@ -668,10 +668,10 @@ static PyObject *description_parse(PyObject *self, PyObject *const *words, Py_ss
 }
 
 /* Writes the text of items as a description in version 1 or 2 of its language to the front of
- * 'buffer'. 'size' is its length. muxandu_description_parse reads it back as the same items.
- * Errors, in this order: UNIT if the version is neither 1 nor 2. UNIT if a number is no item, or
- * for more than 128 items. NO_TEXT or BUFFER, with the index of the item and the reason. After
- * UNIT the call writes nothing. After the other errors it can have changed 'buffer'. */
+ * 'buffer'. 'size' is its length. muxandu_description_parse reads it back as the same items. It
+ * has at most 10,241 bytes. Errors, in this order: UNIT if the version is neither 1 nor 2. UNIT
+ * if a number is no item, or for more than 128 items. NO_TEXT or BUFFER, with the index of the
+ * item and the reason. After an error 'buffer' is unchanged. */
 static PyObject *description_text(PyObject *self, PyObject *const *words, Py_ssize_t count)
 {
     (void)self;

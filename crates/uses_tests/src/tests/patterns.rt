@@ -5,7 +5,7 @@ use format_descriptions::{
     Component, DescriptionFault, Iso8601, Item, Padding, Sign, UnixPrecision,
 };
 use offset_times::OffsetDateTime;
-use pattern_uses::{patterns, written_patterns, wrong_parts};
+use pattern_uses::{patterns, reused_parts, written_patterns, wrong_parts};
 use stamp_times::Timestamp;
 use std::test::Fail;
 
@@ -131,5 +131,40 @@ fn descriptions_are_stored_and_restored(rt: HostRuntime) -> Result<(), Fail> {
         Some(2),
     );
     is(&rt, written_patterns::restore(b"[h", &mut places), None);
+    Ok(())
+}
+
+#[test]
+fn texts_are_read_into_one_set_of_parts(rt: HostRuntime) -> Result<(), Fail> {
+    let items = [
+        Item::Part(Component::YearSince(1969)),
+        Item::Part(Component::Ordinal(Padding::Zero)),
+    ];
+    let leap_day = Date::from_ordinal_date(2024, 60)?;
+    is(
+        &rt,
+        reused_parts::period(&items, b"70001", b"24060"),
+        Some((Date::UNIX_EPOCH, leap_day)),
+    );
+    is(&rt, reused_parts::period(&items, b"70001", b"24"), None);
+    is(&rt, reused_parts::period(&items, b"23366", b"24060"), None);
+    let line = b"70001 begins";
+    match reused_parts::date_and_words(&items, line) {
+        Some((date, words)) => {
+            is(&rt, date, Date::UNIX_EPOCH);
+            is(&rt, words, b" begins".as_slice());
+        }
+        None => is(&rt, "no date", "1970-01-01"),
+    }
+    is(
+        &rt,
+        reused_parts::words_after(&items, line),
+        Some(b" begins".as_slice()),
+    );
+    is(
+        &rt,
+        reused_parts::words_after(&items, b"70 begins").is_none(),
+        true,
+    );
     Ok(())
 }

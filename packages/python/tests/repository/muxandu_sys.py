@@ -314,7 +314,7 @@ CALLS = {
     "muxandu_description_text": (
         [ctypes.c_uint32, ctypes.c_void_p, ctypes.c_size_t, ctypes.c_void_p, ctypes.c_size_t],
         MuxanduOutcome,
-        "Writes the text of items as a description in version 1 or 2 of its language to the front of `buffer`. `size` is its length. muxandu_description_parse reads it back as the same items. Errors, in this order: UNIT if the version is neither 1 nor 2. UNIT if a number is no item, or for more than 128 items. NO_TEXT or BUFFER, with the index of the item and the reason. After UNIT the call writes nothing. After the other errors it can have changed `buffer`.",
+        "Writes the text of items as a description in version 1 or 2 of its language to the front of `buffer`. `size` is its length. muxandu_description_parse reads it back as the same items. It has at most 10,241 bytes. Errors, in this order: UNIT if the version is neither 1 nor 2. UNIT if a number is no item, or for more than 128 items. NO_TEXT or BUFFER, with the index of the item and the reason. After an error `buffer` is unchanged.",
     ),
     "muxandu_date_time_to_rfc3339_digits": (
         [MuxanduDateTime, ctypes.c_uint32, ctypes.c_void_p, ctypes.c_size_t, ctypes.POINTER(ctypes.c_size_t)],

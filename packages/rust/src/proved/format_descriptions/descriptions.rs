@@ -6,7 +6,7 @@ use crate::proved::format_descriptions::{DescriptionFault, DescriptionRefusal, I
 
 /// How many items a text has as a description. They are put at the front of `room`, whose others do
 /// not change. Else why the text is no description, and where: its first fault, which `NoRoom` is
-/// too.
+/// too. Then the front of `room` has the items before the fault.
 ///
 /// ```
 /// # use muxandu::proved::*;
@@ -28,6 +28,8 @@ use crate::proved::format_descriptions::{DescriptionFault, DescriptionRefusal, I
 ///     (items_of_description version (length room.old) text.now) }
 /// ensures items { IfOk (items_of_description version (length room.old) text.now)
 ///     (λ items. room.new ≡ items ++ drop (length items) room.old) }
+/// ensures room { let first = first_items version (length room.old) text.now in
+///     room.new ≡ first ++ drop (length first) room.old }
 /// ensures read { IfOk result (λ count. (items : List Item) ×
 ///     (items_of_description version (length room.old) text.now ≡ Ok items) ×
 ///     (length items ≡ count) × (room.new ≡ items ++ drop count room.old)) }
