@@ -20,6 +20,10 @@ status_of (Err (Found found)) has_told = 1
 status_of (Err Read) has_told = 2
 status_of (Err Write) has_told = 2
 
+-- the exit status after a failed write: that of a program which a closed pipe ends, or that of an error
+abbrev pub unwritten_status : Bool → ℕ
+unwritten_status is_pipe_closed = if is_pipe_closed then 141 else 2
+
 -- the output before the finding was written, and the finding ended the run
 pub record FoundIn (old new : Option (List ℕ)) (result : Run) (found : Finding) : Type 0 where
   pub written : Appends old new result.text

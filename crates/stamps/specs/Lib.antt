@@ -20,5 +20,6 @@ pub mod Readers
 pub mod Reading
 pub mod Runs
 pub mod Styles
+pub mod Tasks
 pub mod Turns
 pub mod Usage

@@ -1,6 +1,7 @@
 //! The task on standard input, or on files one after another.
 ghost use Rattle.std.specs.Prelude.{◌≡◌, false};
 ghost use Rattle.line_devices.specs.Device.{has_failed};
+ghost use Rattle.stamps.specs.Tasks.{reports, tells};
 
 use crate::files::{is_compressed, is_dashes};
 use crate::first_lines::{Given, reader_chosen};
@@ -75,12 +76,16 @@ pub fn print_heading(rt: &HostRuntime, name: &str) -> u8 {
 }
 
 // Whether the task writes notes on lines.
-fn tells(task: &Task) -> bool {
+fn tells(task: &Task) -> bool
+    ensures { result ≡ tells task.now.action }
+{
     matches!(task.action, Action::CheckAll(_) | Action::Gaps(_, _))
 }
 
 // Whether the task reports lines.
-fn reports(task: &Task) -> bool {
+fn reports(task: &Task) -> bool
+    ensures { result ≡ reports task.now.action }
+{
     tells(task) || matches!(task.action, Action::Check(_))
 }
 

@@ -1,5 +1,5 @@
 //! The merge of files by the instants of their lines.
-ghost use Rattle.std.specs.Prelude.{◌≡◌, [], ◌∷◌, ◌++◌, false, length, OnOk};
+ghost use Rattle.std.specs.Prelude.{◌≡◌, [], ◌∷◌, ◌++◌, false, length, OnErr, OnOk};
 ghost use Rattle.line_merges.specs.Logs.{new_log};
 ghost use Rattle.line_merges.specs.Runs.{AreNew};
 ghost use Rattle.stamps.specs.MergeFaults.{merge_status};
@@ -85,6 +85,7 @@ pub fn run(
 }
 
 // Adds the log of a reader, and how its stamps are read. Both have the number of the logs before.
+// Fails only if no memory is left, and then the logs and these stay the same.
 fn add_log<R: Source + Drop>(
     instants: &mut StampInstants,
     logs: &mut Vec<Log<R>>,
@@ -96,13 +97,19 @@ fn add_log<R: Source + Drop>(
     requires numbers { length instants.old.chosen.items ≡ length logs.old.items }
     ensures log { OnOk result (logs.new.items ≡ logs.old.items ++ new_log reader ∷ []) }
     ensures own { OnOk result (instants.new.chosen.items ≡ instants.old.chosen.items ++ own ∷ []) }
+    ensures same_logs { OnErr result (logs.new.items ≡ logs.old.items) }
+    ensures same_own { OnErr result (instants.new.chosen.items ≡ instants.old.chosen.items) }
     ensures words { instants.new.reader ≡ instants.old.reader }
     ensures new { AreNew R.left R.is_marked logs.new.items }
-    ensures numbers { OnOk result (length instants.new.chosen.items ≡ length logs.new.items) }
+    ensures numbers { length instants.new.chosen.items ≡ length logs.new.items }
 {
+    let before = instants.chosen.len();
     instants.chosen.push(own)?;
-    add(logs, reader)?;
-    Ok(())
+    let added = add(logs, reader);
+    if added.is_err() {
+        instants.chosen.truncate(before);
+    }
+    added
 }
 
 // The name of standard input, as of a file.

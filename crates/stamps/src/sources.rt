@@ -1,5 +1,8 @@
 //! Where lines come from: standard input or files. A large file shows its progress.
+ghost use Rattle.std.specs.Prelude.{◌≡◌};
 ghost use Rattle.std.specs.Io.{ReadsAtMost};
+ghost use Rattle.line_devices.specs.Device.{is_pipe_closed};
+ghost use Rattle.stamps.specs.Faults.{unwritten_status};
 
 use line_devices::devices::Device;
 use std::alloc::AllocError;
@@ -224,7 +227,9 @@ pub fn say_compressed(rt: &HostRuntime, words: &[String], name: &str) {
 }
 
 /// Says that a write failed, unless nothing reads the output any more, and returns the exit status.
-pub fn say_unwritten<T>(rt: &HostRuntime, name: &str, writer: &Device<T>) -> u8 {
+pub fn say_unwritten<T>(rt: &HostRuntime, name: &str, writer: &Device<T>) -> u8
+    ensures { result ≡ unwritten_status (is_pipe_closed writer.now) }
+{
     if writer.is_pipe_closed() {
         return PIPE_CLOSED;
     }
