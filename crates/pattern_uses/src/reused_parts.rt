@@ -22,8 +22,8 @@ pub fn next_date(pattern: &[Item], text: &[u8], parts: &mut Parts) -> Option<Dat
     parts.date().ok()
 }
 
-/// The dates of the first and the last day of a period, both read into one set of parts. None if one
-/// of them is no date that is written by the pattern.
+/// The dates of the first and the last day of a period, both read into one set of parts. None if
+/// one of them is no date that is written by the pattern.
 pub fn period(pattern: &[Item], first: &[u8], last: &[u8]) -> Option<(Date, Date)>
     ensures first { IfSome result (λ both. date_in pattern.now first.now ≡ Some both.0) }
     ensures last { IfSome result (λ both. date_in pattern.now last.now ≡ Some both.1) }

@@ -208,8 +208,8 @@ static void descriptions_are_kept(void) {
     CHECK(is_outcome(muxandu_description_text(3, items, 5, text, 40), 0, MUXANDU_REFUSED_UNIT, 0));
     /* an item of logs, which no text names, after items that have one */
     items[5].kind = 28;
-    CHECK(
-        is_outcome(muxandu_description_text(2, items, 6, text, 40), 5, MUXANDU_REFUSED_NO_TEXT, MUXANDU_REASON_NO_TEXT));
+    CHECK(is_outcome(muxandu_description_text(2, items, 6, text, 40), 5, MUXANDU_REFUSED_NO_TEXT,
+                     MUXANDU_REASON_NO_TEXT));
     items[5].kind = 0;
     CHECK(is_filled(text, sizeof text, '!'));
     CHECK(is_outcome(muxandu_description_parse(2, DAY_FORM, strlen(DAY_FORM), items, 4), 5, MUXANDU_REFUSED_BUFFER, 0));
