@@ -97,6 +97,22 @@ def unix_text(instant):
     return f"{'-' if instant < 0 else ''}{seconds}.{nanos:09}".encode()
 
 
+# The most bytes of the first read of a log.
+BLOCK = 65_536
+
+# What is told of a log whose first lines have no stamp.
+BARE = b"the first lines have no stamp: name the form by --form, and the place by --at\n"
+
+
+def told_bare(data, find=stamp_of, name=""):
+    """What is told of a log in whose first read a line ends, and no line has a stamp, neither one with a part out of its range.
+    `find` has the stamp of a line, and `name` is that of the log."""
+    lines = data[:BLOCK].removeprefix(MARK).split(b"\n")
+    if not any(lines[:-1]) or any(find(line) is not None for line in lines):
+        return b""
+    return b"stamps: " + (f"{name}: ".encode() if name else b"") + BARE
+
+
 STYLES = {"utc": lambda instant, _: text_at(instant, 0), "at": text_at, "unix": lambda instant, _: unix_text(instant)}
 
 

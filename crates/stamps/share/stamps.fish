@@ -11,7 +11,7 @@ complete -c stamps -n __fish_is_first_token -f -a 'merge' -d 'write the lines of
 complete -c stamps -n __fish_is_first_token -f -a '--list-forms' -d 'print each form and a sample of it'
 complete -c stamps -n __fish_is_first_token -f -a '--help' -d 'print this usage'
 complete -c stamps -n __fish_is_first_token -f -a '--version' -d 'print the version'
-complete -c stamps -n '__fish_seen_subcommand_from utc at unix check gaps count merge' -l strict -d 'end the run at the first line without a stamp; for merge, gaps and count, at one that goes back'
+complete -c stamps -n '__fish_seen_subcommand_from utc at unix check gaps count merge' -l strict -d 'end the run at the first line without a stamp, but not that of merge; end gaps, count and merge at one that goes back'
 complete -c stamps -n '__fish_seen_subcommand_from check' -l all -d 'print every line at fault'
 complete -c stamps -n '__fish_seen_subcommand_from utc at unix check gaps count since until merge' -x -l form -f -a 'rfc3339 rfc3339-comma journald rfc5424 rfc3164 git postgres clf git-default date rfc2822 haproxy nginx-error local-comma local two-spaces apache-error redis tomcat erlang bgl syslog klog android unix unix-ms unix-us unix-ns mysql-5.6 hdfs spark' -d 'read stamps in a form by its name, or by a format description'
 complete -c stamps -n '__fish_seen_subcommand_from utc at unix check gaps count since until merge' -x -l at -d 'read stamps at front, field:N, after:TEXT or json:NAME'

@@ -177,7 +177,7 @@ pub fn run(
     };
     for name in names {
         if is_compressed(name.as_bytes()) {
-            say_compressed(rt, words, name);
+            say_compressed(rt, words, given.options, name);
             return FAILED;
         }
     }
@@ -215,7 +215,7 @@ fn run_input(
     let Some(mut input) = Input::open(rt, name, true) else {
         return FAILED;
     };
-    let own = match reader_chosen(rt, given, said, &mut input) {
+    let own = match reader_chosen(rt, given, &buckets.reader, said, &mut input) {
         Ok(own) => own,
         Err(status) => return status,
     };

@@ -28,7 +28,7 @@ pub fn run(
     };
     for name in names {
         if is_compressed(name.as_bytes()) {
-            say_compressed(rt, words, name);
+            say_compressed(rt, words, given.options, name);
             return FAILED;
         }
     }
@@ -117,7 +117,7 @@ fn run_input<T: Write>(
     let Some(mut input) = Input::open(rt, name, true) else {
         return FAILED;
     };
-    let own = match reader_chosen(rt, given, said, &mut input) {
+    let own = match reader_chosen(rt, given, &task.reader, said, &mut input) {
         Ok(own) => own,
         Err(status) => return status,
     };

@@ -62,6 +62,7 @@ struct Asked {
     at: Option<String>,
     offset: Option<String>,
     year: Option<String>,
+    options: Vec<String>,
 }
 
 impl Asked {
@@ -103,6 +104,7 @@ fn sort(rt: &HostRuntime, given: Vec<String>) -> Result<Sorted, AllocError> {
         at: None,
         offset: None,
         year: None,
+        options: Vec::new(rt.alloc()),
     };
     let mut step = Step::Word;
     let mut lists = false;
@@ -110,19 +112,22 @@ fn sort(rt: &HostRuntime, given: Vec<String>) -> Result<Sorted, AllocError> {
         let before = step;
         step = step_after(before, word.as_bytes());
         match step {
+            Step::Form | Step::At | Step::Offset | Step::Year => asked.options.push(word)?,
             Step::Value => {
+                asked.options.push(word.clone()?)?;
                 if !asked.keep(before, word) {
                     return Ok(Sorted::Misuse(reading_line(twice_of(before))));
                 }
             }
             Step::List => lists = true,
             Step::Word | Step::File => words.push(word)?,
-            _ => {}
         }
     }
     Ok(match step {
         Step::Form => Sorted::Misuse("--form has no value: add a form, as rfc5424"),
-        Step::At => Sorted::Misuse("--at has no value: add front, field:N, after:TEXT or json:KEY"),
+        Step::At => Sorted::Misuse(
+            "--at has no value: add front, field:N, after:TEXT or json:NAME",
+        ),
         Step::Offset => Sorted::Misuse("--offset has no value: add one, as +05:30 or Z"),
         Step::Year => Sorted::Misuse("--year has no value: add its four digits, as 2024"),
         _ if lists && (!words.is_empty() || asked.is_any()) => {
@@ -165,6 +170,7 @@ fn choice_of(asked: &Asked) -> Given<'_> {
         chooses: asked.form.is_none() && asked.at.is_none(),
         offset: bytes_if(&asked.offset),
         year: bytes_if(&asked.year),
+        options: asked.options.as_slice(),
     }
 }
 

@@ -31,7 +31,7 @@ pub fn run(
     };
     for name in names {
         if is_compressed(name.as_bytes()) {
-            say_compressed(rt, words, name);
+            say_compressed(rt, words, given.options, name);
             return FAILED;
         }
     }
@@ -55,7 +55,7 @@ pub fn run(
             return FAILED;
         };
         let said = if names.is_empty() { "" } else { name };
-        let own = match reader_chosen(rt, given, said, &mut input) {
+        let own = match reader_chosen(rt, given, &instants.reader, said, &mut input) {
             Ok(own) => own,
             Err(status) => return status,
         };

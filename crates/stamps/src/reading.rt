@@ -330,7 +330,7 @@ pub fn reading_line(misuse: ReadingMisuse) -> &'static str
         ReadingMisuse::Description =>
             "the description of the form is at fault: write it as [day]/[month repr:short]/[year]",
         ReadingMisuse::Place =>
-            "the place is unknown: write front, field:N, after:TEXT or json:KEY",
+            "the place is unknown: write front, field:N, after:TEXT or json:NAME",
         ReadingMisuse::LongPlace =>
             "the text of the place has more than 255 bytes: write a shorter one",
         ReadingMisuse::Offset(TextRefusal::Syntax) =>

@@ -67,6 +67,10 @@ impl<'a> Input<'a> {
                 fault: None,
             });
         }
+        if matches!(metadata(rt, name), Ok(found) if found.is_dir()) {
+            say(rt, name, "a folder has no lines: name its files");
+            return None;
+        }
         match File::open(rt, name) {
             Ok(file) => Some(Input {
                 rt,
@@ -217,13 +221,45 @@ pub fn say(rt: &HostRuntime, name: &str, text: &str) {
     }
 }
 
-/// Says what reads a file that is compressed. The words are those before the files.
-pub fn say_compressed(rt: &HostRuntime, words: &[String], name: &str) {
-    let _ = eprint!(rt; "stamps: {name}: the file is compressed: use zcat {name} | stamps");
+/// Says what reads a file that is compressed. The words and the options are those before the files.
+pub fn say_compressed(rt: &HostRuntime, words: &[String], options: &[String], name: &str) {
+    let _ = eprint!(rt; "stamps: {name}: the file is compressed: use zcat");
+    say_word(rt, name);
+    let _ = eprint!(rt; " | stamps");
     for word in words {
-        let _ = eprint!(rt; " {word}");
+        say_word(rt, word);
+    }
+    for word in options {
+        say_word(rt, word);
     }
     let _ = eprintln!(rt; " -");
+}
+
+// Prints a blank and a word for a shell, in quotes if it needs them.
+fn say_word(rt: &HostRuntime, word: &str) {
+    if is_bare_word(word.as_bytes()) {
+        let _ = eprint!(rt; " {word}");
+        return;
+    }
+    let _ = eprint!(rt; " '");
+    for letter in word.chars() {
+        if letter == '\'' {
+            let _ = eprint!(rt; "'\\''");
+        } else {
+            let _ = eprint!(rt; "{letter}");
+        }
+    }
+    let _ = eprint!(rt; "'");
+}
+
+// Whether a shell reads a word without quotes as it is.
+fn is_bare_word(word: &[u8]) -> bool {
+    for byte in word {
+        if !byte.is_ascii_alphanumeric() && !b"+-./:_".contains(byte) {
+            return false;
+        }
+    }
+    !word.is_empty()
 }
 
 /// Says that a write failed, unless nothing reads the output any more, and returns the exit status.

@@ -14,12 +14,14 @@ pub const USAGE: &str = "usage: stamps WORD [FILE..]
   --list-forms                       print each form and a sample of it
   --help                             print this usage
   --version                          print the version
-With --strict the first line without a stamp ends the run; for merge, gaps and count, one that goes back.
+With --strict the first line without a stamp ends the run, but not that of merge.
+With --strict the first line that goes back ends gaps, count and merge.
 With --all check prints every line at fault.
 With --form FORM stamps have a form by its name, or by a description, as [day]/[month]/[year].
 With --at PLACE they are at front, field:N, after:TEXT or json:NAME.
 With --offset OFFSET those without an offset have this one, as +05:30 or Z.
 With --year YEAR the first of those without a year has this one.
 Without --form and --at the first lines of each FILE choose both.
+With --form alone the place is front. With --at alone the form is rfc3339.
 Without a FILE, or for the FILE -, stamps reads standard input.
 The status is 0, or 1 for a gap or a line at fault, or 2 for an error.";
