@@ -1,10 +1,11 @@
 //! Months that are billed, by the clocks of the customer.
 
-ghost use Rattle.std.specs.Prelude.{◌≡◌, ◌<◌, ◌≤◌, ◌+◌, ◌+ℤ◌, pos, IfOk, IfSome, SomeIff};
-ghost use Rattle.calendar_values.specs.Calendar.{days_in_month, is_leap_year, year_of, month_of, day_of_month_of};
+ghost use Rattle.std.specs.Prelude.{◌≡◌, ◌<◌, ◌≤◌, ◌+◌, ◌+ℤ◌, pos, IfOk, IfSome, SomeIff, IsOk, IfErr, OkIff, codes};
+ghost use Rattle.calendar_values.specs.Calendar.{days_in_month, is_leap_year, year_of, month_of, day_of_month_of, day_of_calendar_date};
 ghost use Rattle.calendar_values.specs.Month.{month_number};
 ghost use Rattle.calendar_values.specs.Months.{last_of_month};
-ghost use Rattle.calendar_values.specs.Range.{IsDay};
+ghost use Rattle.calendar_values.specs.Range.{IsDay, IsYear};
+ghost use Rattle.calendar_values.specs.Refusals.{outright_refusal};
 ghost use Rattle.calendar_values.specs.WallClock.{wall_day, wall_time};
 ghost use Rattle.uses.specs.Months as months;
 
@@ -14,6 +15,7 @@ use offset_times::OffsetDateTime;
 
 /// The midnight with which the month begins where the customer is.
 pub fn period_start(at: OffsetDateTime) -> Result<OffsetDateTime, ComponentRange>
+    ensures never_refused { IsOk result }
     ensures offset { IfOk result (λ start. start.offset ≡ at.offset) }
     ensures midnight { IfOk result (λ start. wall_time start.wall ≡ 0) }
     ensures first { IfOk result (λ start. day_of_month_of (wall_day start.wall) ≡ 1) }
@@ -27,6 +29,8 @@ pub fn period_start(at: OffsetDateTime) -> Result<OffsetDateTime, ComponentRange
 
 /// The first day of a month. Refused `year` outside the range.
 pub fn first_day(year: i32, month: Month) -> Result<Date, ComponentRange>
+    ensures value { OkIff result (IsYear year) (day_of_calendar_date year (month_number month) 1) }
+    ensures refused { IfErr result (λ refusal. refusal ≡ outright_refusal (codes "year")) }
     ensures day { IfOk result (λ first. day_of_month_of first ≡ 1) }
     ensures month { IfOk result (λ first. month_of first ≡ month_number month) }
     ensures year { IfOk result (λ first. year_of first ≡ year) }
@@ -38,6 +42,8 @@ pub fn first_day(year: i32, month: Month) -> Result<Date, ComponentRange>
 /// outside the range.
 pub fn due_day(year: i32, month: Month, day: u8) -> Result<Date, ComponentRange>
     requires { 1 ≤ day }
+    ensures value { OkIff result (IsYear year) (months.day_or_last year (month_number month) day) }
+    ensures refused { IfErr result (λ refusal. refusal ≡ outright_refusal (codes "year")) }
     ensures month { IfOk result (λ due. month_of due ≡ month_number month) }
     ensures year { IfOk result (λ due. year_of due ≡ year) }
 {
@@ -67,6 +73,7 @@ pub fn last_day(date: Date) -> Date
 
 /// The midnight with which the last day of the month begins where the customer is.
 pub fn period_end(at: OffsetDateTime) -> Result<OffsetDateTime, ComponentRange>
+    ensures never_refused { IsOk result }
     ensures offset { IfOk result (λ end. end.offset ≡ at.offset) }
     ensures midnight { IfOk result (λ end. wall_time end.wall ≡ 0) }
     ensures last { IfOk result (λ end. day_of_month_of (wall_day end.wall) ≡

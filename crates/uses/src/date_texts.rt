@@ -1,7 +1,9 @@
 //! Days that are exchanged as texts of RFC 3339, and records of a fixed size.
 ghost use Rattle.std.specs.Prelude.{◌≡◌, ◌≤◌, ℕ, SomeIff, IfSome, IsTrue, length};
 ghost use Rattle.std.specs.Result.{is_ok};
+ghost use Rattle.offset_times.specs.Local.{local_in_utc};
 ghost use Rattle.rfc3339.specs.FullDates.{IsFullDate, HasFullDate, full_date_meaning, full_date_reading_of};
+ghost use Rattle.rfc3339.specs.Texts.{HasText, rfc3339_text};
 
 use calendar_values::{Date, Text};
 use rfc3339::length_laws::texts_in_utc_have_thirty_bytes;
@@ -42,7 +44,9 @@ pub fn has_day(field: &[u8]) -> bool
 
 /// The text of an instant for a column of 30 bytes.
 pub fn column(at: UtcDateTime) -> Option<Text>
-    ensures { IfSome result (λ text. length text ≤ 30) }
+    ensures value { let shown = local_in_utc at in
+        SomeIff result (HasText shown) (rfc3339_text shown) }
+    ensures length { IfSome result (λ text. length text ≤ 30) }
 {
     texts_in_utc_have_thirty_bytes();
     at.to_rfc3339()

@@ -1,11 +1,12 @@
 //! Days that are counted.
 
 ghost use Rattle.std.specs.Prelude.{◌≡◌, ◌↔◌, ◌<◌, ◌≤◌, ◌+◌, ◌+ℤ◌, ◌-ℤ◌, ◌*ℤ◌, ◌≤ℤ◌, ◌<ℤ◌, pos, IfSome, IsTrue, SomeIff};
-ghost use Rattle.calendar_values.specs.Calendar.{days_in_month, is_leap_year, year_of, month_of, day_of_month_of};
+ghost use Rattle.calendar_values.specs.Calendar.{days_in_month, is_leap_year, year_of, month_of, day_of_month_of, day_of_calendar_date};
 ghost use Rattle.calendar_values.specs.Clock.{hour_of, minute_of};
-ghost use Rattle.calendar_values.specs.Range.{IsDay, SomeDay};
+ghost use Rattle.calendar_values.specs.Range.{IsDay, SomeDay, IsYear};
 ghost use Rattle.calendar_values.specs.Weekday.{weekday_number};
 ghost use Rattle.calendar_values.specs.Weeks.{iso_week_of, iso_year_of, monday_of, weekday_of, weeks_in_year};
+ghost use Rattle.uses.specs.Days.{days_to_work, IsIsoWeek, monday_of_iso_week};
 
 use calendar_values::{Date, Month, SignedDuration, Time, Weekday, days_in_month};
 
@@ -34,6 +35,8 @@ pub fn first_of_its_month(date: Date) -> Date
 /// The Monday of an ISO week, or None for a week that the year has not, and for a year outside the
 /// range.
 pub fn monday_of_week(year: i32, week: u8) -> Option<Date>
+    ensures value { SomeIff result (IsIsoWeek year week)
+        (monday_of_iso_week year week) }
     ensures year { IfSome result (λ monday. iso_year_of monday ≡ year) }
     ensures week { IfSome result (λ monday. iso_week_of monday ≡ week) }
     ensures weekday { IfSome result (λ monday. weekday_of monday ≡ 0) }
@@ -43,6 +46,7 @@ pub fn monday_of_week(year: i32, week: u8) -> Option<Date>
 
 /// The first day of a year, or None for a year outside the range.
 pub fn first_of_year(year: i32) -> Option<Date>
+    ensures value { SomeIff result (IsYear year) (day_of_calendar_date year 1 1) }
     ensures year { IfSome result (λ first. year_of first ≡ year) }
     ensures month { IfSome result (λ first. month_of first ≡ 1) }
     ensures day { IfSome result (λ first. day_of_month_of first ≡ 1) }
@@ -76,6 +80,7 @@ pub fn days_before(date: Date, days: u8) -> Option<Date>
 
 /// The Monday of the week of the date, or None where the range has it not.
 pub fn monday_of(date: Date) -> Option<Date>
+    ensures value { SomeDay result (date -ℤ pos (weekday_of date)) }
     ensures monday { IfSome result (λ monday. weekday_of monday ≡ 0) }
     ensures near { IfSome result (λ monday. monday ≡ date -ℤ pos (weekday_of date)) }
 {
@@ -91,6 +96,7 @@ pub fn days_after(date: Date, days: u8) -> Option<Date>
 
 /// How many days it is to the next day that is no Saturday and no Sunday.
 pub fn days_to_a_working_day(date: Date) -> u8
+    ensures value { result ≡ days_to_work (weekday_of date) }
     ensures some { 1 ≤ result }
     ensures few { result ≤ 3 }
     ensures working { weekday_of (date +ℤ pos result) < 5 }
@@ -104,6 +110,7 @@ pub fn days_to_a_working_day(date: Date) -> u8
 
 /// The next day that is no Saturday and no Sunday, or None past the range.
 pub fn next_working_day(date: Date) -> Option<Date>
+    ensures value { SomeDay result (date +ℤ pos (days_to_work (weekday_of date))) }
     ensures later { IfSome result (λ next. date <ℤ next) }
     ensures soon { IfSome result (λ next. next ≤ℤ (date +ℤ pos 3)) }
     ensures working { IfSome result (λ next. weekday_of next < 5) }
@@ -113,6 +120,7 @@ pub fn next_working_day(date: Date) -> Option<Date>
 
 /// The same by the day of the week alone. None past the range.
 pub fn working_day_after(date: Date) -> Option<Date>
+    ensures value { SomeDay result (date +ℤ pos (days_to_work (weekday_of date))) }
     ensures later { IfSome result (λ next. date <ℤ next) }
     ensures soon { IfSome result (λ next. next ≤ℤ (date +ℤ pos 3)) }
     ensures working { IfSome result (λ next. weekday_of next < 5) }
@@ -151,10 +159,12 @@ pub fn days_left_in_its_month(date: Date) -> u8
 
 /// The Monday of the week of a date, by the number of the week.
 pub fn monday_by_week(date: Date) -> Option<Date>
-    ensures { IfSome result (λ monday. monday ≡ monday_of date) }
+    ensures value { let year = iso_year_of date in let week = iso_week_of date in
+        SomeIff result (IsIsoWeek year week) (monday_of date) }
+    ensures monday { IfSome result (λ monday. monday ≡ monday_of date) }
 {
     let (year, week, _) = date.to_iso_week_date();
-    Some(Date::from_iso_week_date(year, week, Weekday::Monday).ok()?)
+    Date::from_iso_week_date(year, week, Weekday::Monday).ok()
 }
 
 /// Whether the year has a week 53: then it has 53 weeks.

@@ -1,8 +1,9 @@
 //! Date-times that are exchanged as texts of RFC 3339.
-ghost use Rattle.std.specs.Prelude.{◌≡◌, ℤ, is_ok, map, IfOk, IfSome, OnErr, OnOk, OkIff, SomeIff};
+ghost use Rattle.std.specs.Prelude.{◌≡◌, ℤ, is_ok, map, IfOk, IfSome, OnErr, OnOk, OkIff, SomeIff, Err, IfErr};
 ghost use Rattle.std.specs.Prelude.{IsPermutation, IsSorted};
 ghost use Rattle.std.specs.Cmp.Lexicographic.{slice_cmp};
 ghost use Rattle.std.specs.Ordering.{nat_cmp, int_cmp};
+ghost use Rattle.calendar_values.specs.WallClock.{IsWallClock};
 ghost use Rattle.offset_times.specs.Local.{instant_of, local_at};
 ghost use Rattle.rfc3339.specs.Form.{IsDateTime};
 ghost use Rattle.rfc3339.specs.Meaning.{value_of, AreInRange};
@@ -23,7 +24,11 @@ use utc_times::UtcDateTime;
 /// The stamp of a log line as clocks at another offset show it. None where it is no date-time, or
 /// where clocks there show a year that has not four digits.
 pub fn stamp_at(stamp: &[u8], offset: UtcOffset) -> Option<Text>
-    ensures { IfSome result (λ text. (p : Parts) × IsDateTime stamp.now p ×
+    ensures value { (p : Parts) → IsDateTime stamp.now p →
+        (let there = local_at (instant_of (value_of p)) offset in
+        SomeIff result (AreInRange p × IsWallClock there.wall × HasText there)
+        (rfc3339_text there)) }
+    ensures form { IfSome result (λ text. (p : Parts) × IsDateTime stamp.now p ×
         (text ≡ rfc3339_text (local_at (instant_of (value_of p)) offset))) }
 {
     let Ok(read) = parse_rfc3339(stamp) else {
@@ -79,8 +84,10 @@ pub fn answers(alloc: Global, lines: &[&[u8]]) -> Result<Vec<Text>, AllocError>
 
 /// The shortest text of what a text of another program says.
 pub fn rewritten(stamp: &[u8]) -> Result<Text, TextRefusal>
-    ensures { IfOk result (λ text.
-        (p : Parts) × IsDateTime stamp.now p × (text ≡ rfc3339_text (value_of p))) }
+    ensures refused { IfErr result (λ refusal. reading_of stamp.now ≡ Err refusal) }
+    ensures form { IfOk result (λ text.
+        (p : Parts) × IsDateTime stamp.now p × AreInRange p ×
+        (text ≡ rfc3339_text (value_of p))) }
 {
     Ok(parse_rfc3339(stamp)?.to_rfc3339().unwrap())
 }

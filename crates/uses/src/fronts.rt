@@ -1,10 +1,12 @@
 //! Texts for other systems, and of them: columns of milliseconds, lines that begin with a
 //! date-time, leap seconds, and where a text is wrong.
-ghost use Rattle.std.specs.Prelude.{◌≡◌, ◌≤◌, ◌==◌, ◌++◌, ℕ, List, SomeIff, OkIff, IfOk, IfSome, IsTrue, Ok, Some, true, false, length};
-ghost use Rattle.calendar_values.specs.WallClock.{IsInstant};
-ghost use Rattle.offset_times.specs.Local.{Local, instant_of};
+ghost use Rattle.std.specs.Prelude.{◌≡◌, ◌≤◌, ◌==◌, ◌++◌, ℕ, List, SomeIff, OkIff, IfOk, IfSome, IsTrue, Ok, Some};
+ghost use Rattle.std.specs.Prelude.{true, false, length, Err, IfErr, is_ok, IsSome, ◌↔◌};
+ghost use Rattle.calendar_values.specs.WallClock.{IsInstant, IsWallClock};
+ghost use Rattle.offset_times.specs.Local.{Local, instant_of, local_at};
 ghost use Rattle.rfc3339.specs.Form.{IsDateTime};
-ghost use Rattle.rfc3339.specs.LeapSeconds.{stand_in, AreInLeapRange, IsLastOfMonth};
+ghost use Rattle.rfc3339.specs.Front.{front_reading_of};
+ghost use Rattle.rfc3339.specs.LeapSeconds.{stand_in, AreInLeapRange, IsLastOfMonth, leap_reading_of};
 ghost use Rattle.rfc3339.specs.Meaning.{value_of, AreInRange};
 ghost use Rattle.rfc3339.specs.Reading.{reading_of};
 ghost use Rattle.rfc3339.specs.Texts.{HasText, digits_text};
@@ -71,6 +73,9 @@ pub struct Entry {
 
 /// The entry of a text of a log.
 pub fn entry_of(text: &[u8]) -> Result<Entry, TextRefusal>
+    ensures value { (p : Parts) → IsDateTime text.now p → OkIff result (AreInLeapRange p)
+        (record { at = value_of (stand_in p); is_leap = p.second == 60 }) }
+    ensures refused { IfErr result (λ refusal. leap_reading_of text.now ≡ Err refusal) }
     ensures leap { IfOk result (λ entry.
         entry.is_leap ≡ true → IsLastOfMonth (instant_of entry.at)) }
     ensures other { IfOk result (λ entry.
@@ -83,7 +88,8 @@ pub fn entry_of(text: &[u8]) -> Result<Entry, TextRefusal>
 
 /// The part of a line after its date-time. None if it begins with none.
 pub fn words_of(line: &[u8]) -> Option<&[u8]>
-    ensures { IfSome result (λ words.
+    ensures some { IsSome result ↔ IsTrue (is_ok (front_reading_of line.now)) }
+    ensures words { IfSome result (λ words.
         (stamp : List ℕ) × (p : Parts) × IsDateTime stamp p × (line.now ≡ stamp ++ words.now)) }
 {
     let Ok((_, count)) = parse_rfc3339_front(line) else {
@@ -94,7 +100,8 @@ pub fn words_of(line: &[u8]) -> Option<&[u8]>
 
 /// The date-time that a line begins with. None if it begins with none.
 pub fn date_time_of(line: &[u8]) -> Option<OffsetDateTime>
-    ensures { IfSome result (λ at. (stamp : List ℕ) × (rest : List ℕ) × (p : Parts) ×
+    ensures some { IsSome result ↔ IsTrue (is_ok (front_reading_of line.now)) }
+    ensures begins { IfSome result (λ at. (stamp : List ℕ) × (rest : List ℕ) × (p : Parts) ×
         (line.now ≡ stamp ++ rest) × IsDateTime stamp p × (at ≡ value_of p)) }
 {
     let Ok((at, _)) = parse_rfc3339_front(line) else {
@@ -105,7 +112,9 @@ pub fn date_time_of(line: &[u8]) -> Option<OffsetDateTime>
 
 /// The instant of a text whose second may be 60.
 pub fn instant_of_leap(text: &[u8]) -> Option<OffsetDateTime>
-    ensures { IfSome result (λ at.
+    ensures value { (p : Parts) → IsDateTime text.now p →
+        SomeIff result (AreInLeapRange p) (value_of (stand_in p)) }
+    ensures form { IfSome result (λ at.
         (p : Parts) × IsDateTime text.now p × (at ≡ value_of (stand_in p))) }
 {
     let Ok((at, _)) = parse_rfc3339_leap(text) else {
@@ -117,7 +126,8 @@ pub fn instant_of_leap(text: &[u8]) -> Option<OffsetDateTime>
 /// The date-time that a line begins with, and the part of the line after it. None if it begins with
 /// none.
 pub fn stamp_and_words(line: &[u8]) -> Option<(OffsetDateTime, &[u8])>
-    ensures { IfSome result (λ both. (stamp : List ℕ) × (p : Parts) ×
+    ensures some { IsSome result ↔ IsTrue (is_ok (front_reading_of line.now)) }
+    ensures begins { IfSome result (λ both. (stamp : List ℕ) × (p : Parts) ×
         (line.now ≡ stamp ++ both.1.now) × IsDateTime stamp p × (both.0 ≡ value_of p)) }
 {
     let Ok((at, count)) = parse_rfc3339_front(line) else {
@@ -148,6 +158,9 @@ pub fn timestamp_of_leap(text: &[u8]) -> Option<Timestamp>
 /// The instant of a text whose second may be 60, as clocks at an offset have it, and whether the
 /// second was 60. None if the text is no date-time, or the date there is out of range.
 pub fn leap_date_time_at(text: &[u8], offset: UtcOffset) -> Option<(OffsetDateTime, bool)>
+    ensures value { (p : Parts) → IsDateTime text.now p →
+        (let there = local_at (instant_of (value_of (stand_in p))) offset in
+        SomeIff result (AreInLeapRange p × IsWallClock there.wall) (there, p.second == 60)) }
     ensures instant { IfSome result (λ both. (p : Parts) × IsDateTime text.now p ×
         (instant_of both.0 ≡ instant_of (value_of (stand_in p)))) }
     ensures leap { IfSome result (λ both. both.1 ≡ true → IsLastOfMonth (instant_of both.0)) }

@@ -21,7 +21,8 @@ pub fn last_day_of_month(date: Date) -> Date
 /// range.
 pub fn day_or_last(year: i32, month: Month, day: u8) -> Result<Date, ComponentRange>
     requires first { 1 ≤ day }
-    ensures { OkIff result (IsYear year) (months.day_or_last year (month_number month) day) }
+    ensures refused { IfErr result (λ refusal. refusal ≡ outright_refusal (codes "year")) }
+    ensures value { OkIff result (IsYear year) (months.day_or_last year (month_number month) day) }
 {
     Date::from_calendar_date(year, month, day.min(days_in_month(year, month)))
 }

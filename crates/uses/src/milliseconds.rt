@@ -1,6 +1,6 @@
 //! Instants as a browser counts them: Unix milliseconds.
-ghost use Rattle.std.specs.Prelude.{◌≡◌, ◌≤ℤ◌, ◌<ℤ◌, ◌+ℤ◌, pos, IfSome};
-ghost use Rattle.calendar_values.specs.WallClock.{SomeInRange, unix_seconds_of};
+ghost use Rattle.std.specs.Prelude.{◌≡◌, ◌≤ℤ◌, ◌<ℤ◌, ◌+ℤ◌, pos, IfSome, SomeIff};
+ghost use Rattle.calendar_values.specs.WallClock.{SomeInRange, unix_seconds_of, IsInstant};
 ghost use Rattle.offset_times.specs.Local.{instant_of};
 ghost use Rattle.stamp_times.specs.Instants.{instant_of_milliseconds, unix_milliseconds_of};
 
@@ -27,7 +27,7 @@ pub fn at_offset(milliseconds: i64, offset: UtcOffset) -> Option<OffsetDateTime>
 
 /// The Unix milliseconds, rounded down. None where the instant lies outside the range.
 pub fn milliseconds_of(at: OffsetDateTime) -> Option<i64>
-    ensures { IfSome result (λ count. count ≡ unix_milliseconds_of (instant_of at)) }
+    ensures { SomeIff result (IsInstant (instant_of at)) (unix_milliseconds_of (instant_of at)) }
 {
     Some(at.checked_to_timestamp()?.as_milliseconds())
 }

@@ -1,11 +1,12 @@
 //! Callers that do not care which type holds an instant, and records that are exchanged.
-ghost use Rattle.std.specs.Prelude.{◌≡◌, ◌↔◌, ◌≤◌, codes, IfErr, IfOk, IfSome, IsOk, IsPermutation, IsSorted, OnErr, OnOk, pos, ◌+ℤ◌, ◌≤ℤ◌};
+ghost use Rattle.std.specs.Prelude.{◌≡◌, ◌↔◌, ◌≤◌, codes, IfErr, IfOk, IfSome, IsOk, IsPermutation, IsSorted, OnErr, OnOk};
+ghost use Rattle.std.specs.Prelude.{pos, ◌+ℤ◌, ◌≤ℤ◌, None, SomeIff, option_map};
 ghost use Rattle.std.specs.Ordering.{on, int_cmp};
 ghost use Rattle.calendar_values.specs.Calendar.{day_of_month_of, year_of};
 ghost use Rattle.calendar_values.specs.Clock.{nanos_per_day, hour_of};
 ghost use Rattle.calendar_values.specs.Refusals.{date_refusal, outright_refusal};
-ghost use Rattle.calendar_values.specs.WallClock.{wall_day, wall_time};
-ghost use Rattle.offset_times.specs.Local.{instant_of, shown_at, local_at};
+ghost use Rattle.calendar_values.specs.WallClock.{wall_day, wall_time, IsWallClock, SomeInRange};
+ghost use Rattle.offset_times.specs.Local.{instant_of, shown_at, local_at, wall_at};
 ghost use Rattle.offset_times.specs.Texts.{offset_date_time_text};
 ghost use Rattle.plain_times.specs.Replacements.{with_time};
 ghost use Rattle.plain_times.specs.Truncations.{wall_multiple_below};
@@ -28,7 +29,8 @@ pub fn first_of_day<M: Moment>(at: M) -> M
 
 /// The same time of day tomorrow, for any type that holds an instant. None outside the range.
 pub fn tomorrow<M: Moment>(at: M) -> Option<M>
-    ensures { IfSome result (λ later. M.instant later ≡ M.instant at +ℤ pos nanos_per_day) }
+    ensures value { SomeInRange (option_map M.instant result) (M.instant at +ℤ pos nanos_per_day) }
+    ensures instant { IfSome result (λ later. M.instant later ≡ M.instant at +ℤ pos nanos_per_day) }
 {
     at.shift(Shift::CheckedAdd(SignedDuration::days(1)))
 }
@@ -98,12 +100,16 @@ pub fn an_hour_on<M: Moment>(at: M) -> M
 /// The next midnight that clocks at the offset show, or None where they show no date of the range
 /// now or then.
 pub fn next_midnight_at(at: UtcDateTime, offset: UtcOffset) -> Option<OffsetDateTime>
+    ensures outside { ¬ IsWallClock (shown_at at offset) → result ≡ None }
+    ensures value { let here = shown_at at offset in
+        let next = wall_multiple_below nanos_per_day here +ℤ pos nanos_per_day in
+        IsWallClock here → SomeIff result (IsWallClock next) (wall_at next offset) }
     ensures at_offset { IfSome result (λ next. next.offset ≡ offset) }
     ensures a_day_after_the_last { IfSome result (λ next.
         next.wall ≡ wall_multiple_below nanos_per_day (shown_at at offset) +ℤ pos nanos_per_day) }
 {
     let here = at.checked_to_offset(offset)?;
-    Some(here.truncate_to_day().checked_add(SignedDuration::days(1))?)
+    here.truncate_to_day().checked_add(SignedDuration::days(1))
 }
 
 /// Puts entries from many offsets into the order of their instants.
@@ -124,8 +130,8 @@ pub struct Record {
 
 /// The text of a record at its offset, or None where clocks there show no date of the range.
 pub fn record_text(entry: Record) -> Option<Text>
-    ensures { IfSome result (λ text. text ≡ offset_date_time_text
-        (local_at entry.at entry.offset)) }
+    ensures value { let there = local_at entry.at entry.offset in
+        SomeIff result (IsWallClock there.wall) (offset_date_time_text there) }
 {
     Some(entry.at.checked_to_offset(entry.offset)?.text())
 }

@@ -1,11 +1,12 @@
 //! Days that come each month or each year: a month that is too short has its last day in their
 //! place.
 
-ghost use Rattle.std.specs.Prelude.{◌≡◌, ◌≤◌, ◌<◌, ◌+◌, ◌+ℤ◌, ◌-ℤ◌, pos, min, IfOk, IfSome, IfNone, OkIff, SomeIff, neg_ℤ, ◌≤ℤ◌, ◌<ℤ◌};
+ghost use Rattle.std.specs.Prelude.{◌≡◌, ◌≤◌, ◌<◌, ◌+◌, ◌+ℤ◌, ◌-ℤ◌, pos, min, IfOk, IfSome, IfNone, OkIff, SomeIff, neg_ℤ, ◌≤ℤ◌, ◌<ℤ◌, IfErr, IsOk, codes, ◌↔◌};
 ghost use Rattle.calendar_values.specs.Calendar.{days_in_month, is_leap_year, year_of, month_of, day_of_month_of};
 ghost use Rattle.calendar_values.specs.Month.{month_number};
-ghost use Rattle.calendar_values.specs.Range.{IsYear};
-ghost use Rattle.calendar_values.specs.Months.{last_of_month, month_index};
+ghost use Rattle.calendar_values.specs.Range.{IsYear, IsDay, SomeDay};
+ghost use Rattle.calendar_values.specs.Months.{last_of_month, month_index, first_of_month, months_later};
+ghost use Rattle.calendar_values.specs.Refusals.{outright_refusal};
 ghost use Rattle.uses.specs.Months as months;
 
 use crate::invoices::{day_or_last, last_day_of_month};
@@ -14,6 +15,7 @@ use calendar_values::{ComponentRange, Date, Month, days_in_month};
 /// The day on which a contract is billed in a month. Refused `year` outside the range.
 pub fn billing_day(year: i32, month: Month, day: u8) -> Result<Date, ComponentRange>
     requires { 1 ≤ day }
+    ensures refused { IfErr result (λ refusal. refusal ≡ outright_refusal (codes "year")) }
     ensures value { OkIff result (IsYear year)
         (months.day_or_last year (month_number month) day) }
     ensures year { IfOk result (λ due. year_of due ≡ year) }
@@ -47,16 +49,24 @@ pub fn a_year_later(date: Date) -> Option<Date>
 
 /// The same, by the number of days of that month. Refused `year` past the range.
 pub fn same_day_next_year(date: Date) -> Result<Date, ComponentRange>
+    ensures value { let y = year_of date +ℤ pos 1 in
+        OkIff result (IsYear y) (months.day_or_last y (month_of date) (day_of_month_of date)) }
+    ensures refused { IfErr result (λ refusal. refusal ≡ outright_refusal (codes "year")) }
     ensures year { IfOk result (λ later. year_of later ≡ year_of date +ℤ pos 1) }
     ensures month { IfOk result (λ later. month_of later ≡ month_of date) }
 {
     let year = date.year() + 1;
     let day = date.day().min(days_in_month(year, date.month()));
-    Date::from_calendar_date(year, date.month(), day)
+    match Date::from_calendar_date(year, date.month(), day) {
+        Ok(later) => Ok(later),
+        Err(_) => Err(ComponentRange::new("year", false)),
+    }
 }
 
 /// The same. None past the range.
 pub fn next_anniversary(date: Date) -> Option<Date>
+    ensures value { let y = year_of date +ℤ pos 1 in
+        SomeIff result (IsYear y) (months.day_or_last y (month_of date) (day_of_month_of date)) }
     ensures year { IfSome result (λ later. year_of later ≡ year_of date +ℤ pos 1) }
     ensures month { IfSome result (λ later. month_of later ≡ month_of date) }
 {
@@ -70,6 +80,7 @@ pub fn next_anniversary(date: Date) -> Option<Date>
 
 /// The first day of the next month. None in the last month of the range.
 pub fn next_month(date: Date) -> Option<Date>
+    ensures value { SomeDay result (months.first_of_next_month date) }
     ensures month { IfSome result (λ first. month_index first ≡ month_index date +ℤ pos 1) }
     ensures first { IfSome result (λ first. day_of_month_of first ≡ 1) }
 {
@@ -79,6 +90,7 @@ pub fn next_month(date: Date) -> Option<Date>
 /// The day of the month that a date is in, or the month's last day where it is shorter.
 pub fn day_in_month_of(date: Date, day: u8) -> Date
     requires { 1 ≤ day }
+    ensures value { result ≡ months.day_or_last (year_of date) (month_of date) day }
     ensures year { year_of result ≡ year_of date }
     ensures month { month_of result ≡ month_of date }
     ensures day { day_of_month_of result ≡
@@ -91,6 +103,9 @@ pub fn day_in_month_of(date: Date, day: u8) -> Date
 /// The same day of the next month, or its last day where it is shorter. None in the last month of
 /// the range.
 pub fn a_month_later(date: Date) -> Option<Date>
+    ensures value { let first = months.first_of_next_month date in
+        SomeIff result (IsDay first) (months.day_or_last (year_of first) (month_of first)
+        (day_of_month_of date)) }
     ensures month { IfSome result (λ later. month_index later ≡ month_index date +ℤ pos 1) }
     ensures day { IfSome result (λ later. day_of_month_of later ≡ min (day_of_month_of date)
         (days_in_month (is_leap_year (year_of later)) (month_of later))) }
@@ -102,6 +117,7 @@ pub fn a_month_later(date: Date) -> Option<Date>
 /// The same day a number of months later, or the last of a month that is shorter. None outside the
 /// range.
 pub fn renewal(date: Date, months: i32) -> Option<Date>
+    ensures value { SomeDay result (months_later date months) }
     ensures month { IfSome result (λ later. month_index later ≡ month_index date +ℤ months) }
     ensures same_day { IfSome result (λ later. day_of_month_of date ≤ 28 →
         day_of_month_of later ≡ day_of_month_of date) }
@@ -111,7 +127,8 @@ pub fn renewal(date: Date, months: i32) -> Option<Date>
 
 /// The last day of the month before. None in the first month of the range.
 pub fn end_of_last_month(date: Date) -> Option<Date>
-    ensures { IfSome result (λ end. end <ℤ date) }
+    ensures value { SomeDay result (first_of_month date -ℤ pos 1) }
+    ensures before { IfSome result (λ end. end <ℤ date) }
 {
     Some(date.first_of_month().previous_day()?)
 }
@@ -136,7 +153,10 @@ pub fn month_after(date: Date) -> Option<Month>
 /// The same day of the next month, or its last day, by the number of the month: the 13th is
 /// January. Refused `year` past the range.
 pub fn same_day_next_month(date: Date) -> Result<Date, ComponentRange>
-    ensures { IfOk result (λ due. due ≡
+    ensures within_the_year { month_of date < 12 → IsOk result }
+    ensures after_december { month_of date ≡ 12 → IsOk result ↔ IsYear (year_of date +ℤ pos 1) }
+    ensures refused { IfErr result (λ refusal. refusal ≡ outright_refusal (codes "year")) }
+    ensures value { IfOk result (λ due. due ≡
         months.same_day_or_last (year_of date) (month_of date + 1) (day_of_month_of date)) }
 {
     match month_after(date) {

@@ -1,8 +1,8 @@
 //! Events that were noted at offsets of their own: their instants tell which came first.
-ghost use Rattle.std.specs.Prelude.{◌≡◌, ◌↔◌, ◌-ℤ◌, ◌≤ℤ◌, ◌<ℤ◌, IfSome, IsTrue, SomeIff};
+ghost use Rattle.std.specs.Prelude.{◌≡◌, ◌↔◌, ◌+ℤ◌, ◌-ℤ◌, ◌≤ℤ◌, ◌<ℤ◌, IfSome, IsTrue, SomeIff};
 ghost use Rattle.calendar_values.specs.Offsets.{IsOffset};
 ghost use Rattle.calendar_values.specs.WallClock.{IsWallClock};
-ghost use Rattle.offset_times.specs.Local.{instant_of, local_at, offset_nanos, shown_at};
+ghost use Rattle.offset_times.specs.Local.{instant_of, local_at, offset_nanos, shown_at, wall_at, ShownAt};
 
 use calendar_values::{SignedDuration, UtcOffset};
 use offset_times::OffsetDateTime;
@@ -40,6 +40,7 @@ pub fn time_between(first: OffsetDateTime, second: OffsetDateTime) -> SignedDura
 /// The second, as clocks show it where the first was noted. None where they show no date of the
 /// range.
 pub fn shown_like(first: OffsetDateTime, second: OffsetDateTime) -> Option<OffsetDateTime>
+    ensures value { ShownAt result (instant_of second) first.offset }
     ensures offset { IfSome result (λ shown. shown.offset ≡ first.offset) }
     ensures instant { IfSome result (λ shown. instant_of shown ≡ instant_of second) }
 {
@@ -69,6 +70,8 @@ pub fn shown_in_both(
     here: UtcOffset,
     there: UtcOffset,
 ) -> Option<(OffsetDateTime, OffsetDateTime)>
+    ensures value { let at_here = local_at at here in let at_there = local_at at there in
+        SomeIff result (IsWallClock at_here.wall × IsWallClock at_there.wall) (at_here, at_there) }
     ensures here { IfSome result (λ both. both.0 ≡ local_at at here) }
     ensures there { IfSome result (λ both. both.1 ≡ local_at at there) }
     ensures apart { IfSome result (λ both.
@@ -80,6 +83,8 @@ pub fn shown_in_both(
 /// The first, put where the second is, by the time from the one to the other. None where clocks
 /// show no date of the range there.
 pub fn put_at(first: OffsetDateTime, second: OffsetDateTime) -> Option<OffsetDateTime>
+    ensures value { let wall = first.wall +ℤ (instant_of second -ℤ instant_of first) in
+        SomeIff result (IsWallClock wall) (wall_at wall first.offset) }
     ensures instant { IfSome result (λ put. instant_of put ≡ instant_of second) }
 {
     first.checked_add(time_between(first, second))
@@ -87,6 +92,8 @@ pub fn put_at(first: OffsetDateTime, second: OffsetDateTime) -> Option<OffsetDat
 
 /// The same, back by the time from the second to the first.
 pub fn put_back_at(first: OffsetDateTime, second: OffsetDateTime) -> Option<OffsetDateTime>
+    ensures value { let wall = first.wall -ℤ (instant_of first -ℤ instant_of second) in
+        SomeIff result (IsWallClock wall) (wall_at wall first.offset) }
     ensures instant { IfSome result (λ put. instant_of put ≡ instant_of second) }
 {
     first.checked_sub(first - second)
@@ -111,7 +118,8 @@ pub fn offset_of(seconds: i32) -> Option<UtcOffset>
 /// A timestamp at an offset that comes as a number of seconds. None where there is no such offset,
 /// or clocks there show no date of the range.
 pub fn at_seconds(at: Timestamp, seconds: i32) -> Option<OffsetDateTime>
-    ensures { IfSome result (λ shown. shown ≡ local_at at seconds) }
+    ensures value { let shown = local_at at seconds in
+        SomeIff result (IsOffset seconds × IsWallClock shown.wall) shown }
 {
     let offset = offset_of(seconds)?;
     Some(at.checked_to_offset(offset)?)
@@ -119,12 +127,13 @@ pub fn at_seconds(at: Timestamp, seconds: i32) -> Option<OffsetDateTime>
 
 /// The same in one function.
 pub fn at_offset_seconds(at: Timestamp, seconds: i32) -> Option<OffsetDateTime>
-    ensures { IfSome result (λ shown. shown ≡ local_at at seconds) }
+    ensures value { let shown = local_at at seconds in
+        SomeIff result (IsOffset seconds × IsWallClock shown.wall) shown }
 {
     let Ok(offset) = UtcOffset::from_whole_seconds(seconds) else {
         return None;
     };
-    at.checked_to_offset(offset)
+    Some(at.checked_to_offset(offset)?)
 }
 
 /// The date-time at another offset, and back at its own: itself, exactly if clocks at the other
@@ -138,7 +147,8 @@ pub fn there_and_back(at: OffsetDateTime, offset: UtcOffset) -> Option<OffsetDat
 /// The instant at one offset, and then at a second. None where clocks at one of them show no date
 /// of the range.
 pub fn across(at: Timestamp, first: UtcOffset, second: UtcOffset) -> Option<OffsetDateTime>
-    ensures { IfSome result (λ there. there ≡ local_at at second) }
+    ensures value { let there = local_at at second in
+        SomeIff result (IsWallClock (shown_at at first) × IsWallClock there.wall) there }
 {
     at.checked_to_offset(first)?.checked_to_offset(second)
 }

@@ -1,10 +1,11 @@
 //! Conversions and calls that come as lists.
-ghost use Rattle.std.specs.Prelude.{◌≡◌, ◌≤◌, ◌+ℤ◌, ◌<ℤ◌, ◌∷◌, ◌++◌, [], pos, IfOk, IfSome, Some, length, vec_len};
+ghost use Rattle.std.specs.Prelude.{◌≡◌, ◌≤◌, ◌+ℤ◌, ◌<ℤ◌, ◌∷◌, ◌++◌, [], pos, IfOk, IfSome, Some, length, vec_len, None, SomeIff};
 ghost use Rattle.calendar_values.specs.Clock.{nanos_per_day};
 ghost use Rattle.calendar_values.specs.WallClock.{IsWallClock, last_wall_clock, wall_day, wall_time};
-ghost use Rattle.offset_times.specs.Local.{instant_of};
+ghost use Rattle.offset_times.specs.Local.{instant_of, local_at};
 ghost use Rattle.stamp_times.specs.Counter.{last_instant, replies, reply, reply_of_instant};
 ghost use Rattle.stamp_times.specs.Travel.{held_instant, held_after, stop_index};
+ghost use Rattle.stamp_times.specs.declared.chains.steps.Step.TheVariants.{ToOffset, ToUtc};
 ghost use Rattle.stamp_times.specs.declared.runs.calls.Reply.TheVariants.{Refused};
 
 use calendar_values::{SignedDuration, Time, UtcOffset};
@@ -35,7 +36,9 @@ pub fn steps_made(start: Held, steps: &[Step]) -> usize
 
 /// The timestamp at the offset, by way of UTC. None if the date there is out of range.
 pub fn by_way_of_utc(stamp: Timestamp, offset: UtcOffset) -> Option<OffsetDateTime>
-    ensures { IfSome result (λ shown. instant_of shown ≡ stamp) }
+    ensures value { let stop = stop_index stamp (ToUtc ∷ ToOffset offset ∷ []) in
+        SomeIff result (stop ≡ None) (local_at stamp offset) }
+    ensures instant { IfSome result (λ shown. instant_of shown ≡ stamp) }
 {
     let held = chain(Held::Stamp(stamp), &[Step::ToUtc, Step::ToOffset(offset)]).ok()?;
     match held {
@@ -131,8 +134,9 @@ pub fn by_way_of_stamp(at: UtcDateTime) -> Held
 
 /// The result of some steps and then others, if all of them succeed.
 pub fn converted_by_both(start: Held, first: &[Step], rest: &[Step]) -> Option<Held>
-    ensures { IfSome result (λ held.
-        held ≡ held_after start (held_instant start) (first.now ++ rest.now)) }
+    ensures value { let steps = first.now ++ rest.now in
+        SomeIff result (stop_index (held_instant start) steps ≡ None)
+        (held_after start (held_instant start) steps) }
 {
     stamp_times::laws::chains_compose();
     let between = chain(start, first).ok()?;
@@ -142,8 +146,7 @@ pub fn converted_by_both(start: Held, first: &[Step], rest: &[Step]) -> Option<H
 /// The place of the step at which a chain over steps and then others stops, counted over all of
 /// them. None where all can be made.
 pub fn stop_in_both(start: Held, first: &[Step], rest: &[Step]) -> Option<usize>
-    ensures { IfSome result (λ place.
-        stop_index (held_instant start) (first.now ++ rest.now) ≡ Some place) }
+    ensures { result ≡ stop_index (held_instant start) (first.now ++ rest.now) }
 {
     stamp_times::laws::chains_compose();
     match chain(start, first) {

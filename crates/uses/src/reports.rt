@@ -1,9 +1,9 @@
 //! Reports by the hour.
-ghost use Rattle.std.specs.Prelude.{◌≡◌, ◌+ℤ◌, ◌≤ℤ◌, ◌<ℤ◌, pos, IfSome};
+ghost use Rattle.std.specs.Prelude.{◌≡◌, ◌+ℤ◌, ◌≤ℤ◌, ◌<ℤ◌, pos, IfSome, SomeIff};
 ghost use Rattle.calendar_values.specs.Clock.{nanos_per_hour, minute_of, second_of, nanosecond_of};
 ghost use Rattle.calendar_values.specs.Clock as clocks;
-ghost use Rattle.calendar_values.specs.WallClock.{wall_day, wall_time};
-ghost use Rattle.offset_times.specs.Local.{instant_of};
+ghost use Rattle.calendar_values.specs.WallClock.{wall_day, wall_time, IsWallClock, SomeInRange};
+ghost use Rattle.offset_times.specs.Local.{instant_of, local_multiple_below, wall_at};
 ghost use Rattle.plain_times.specs.Truncations.{wall_multiple_below};
 
 use calendar_values::SignedDuration;
@@ -21,6 +21,8 @@ pub fn hour_of(at: UtcDateTime) -> UtcDateTime
 
 /// The hour after the one that an instant is reported under. None past the range.
 pub fn next_hour(at: UtcDateTime) -> Option<UtcDateTime>
+    ensures value { SomeInRange result
+        (wall_multiple_below nanos_per_hour at +ℤ pos nanos_per_hour) }
     ensures whole { IfSome result (λ next. wall_multiple_below nanos_per_hour next ≡ next) }
     ensures later { IfSome result (λ next. at <ℤ next) }
     ensures soon { IfSome result (λ next. next ≤ℤ (at +ℤ pos nanos_per_hour)) }
@@ -30,6 +32,8 @@ pub fn next_hour(at: UtcDateTime) -> Option<UtcDateTime>
 
 /// The same by the constant of an hour. None past the range.
 pub fn hour_after(at: UtcDateTime) -> Option<UtcDateTime>
+    ensures value { SomeInRange result
+        (wall_multiple_below nanos_per_hour at +ℤ pos nanos_per_hour) }
     ensures whole { IfSome result (λ next. wall_multiple_below nanos_per_hour next ≡ next) }
     ensures later { IfSome result (λ next. at <ℤ next) }
     ensures soon { IfSome result (λ next. next ≤ℤ (at +ℤ pos nanos_per_hour)) }
@@ -40,6 +44,7 @@ pub fn hour_after(at: UtcDateTime) -> Option<UtcDateTime>
 /// The hour that a sale is reported under where it was made: on the same date, in the same hour, at
 /// its first nanosecond.
 pub fn hour_there(sale: OffsetDateTime) -> OffsetDateTime
+    ensures value { result ≡ local_multiple_below nanos_per_hour sale }
     ensures whole { wall_multiple_below nanos_per_hour result.wall ≡ result.wall }
     ensures date { wall_day result.wall ≡ wall_day sale.wall }
     ensures hour { clocks.hour_of (wall_time result.wall) ≡ clocks.hour_of (wall_time sale.wall) }
@@ -54,6 +59,9 @@ pub fn hour_there(sale: OffsetDateTime) -> OffsetDateTime
 
 /// The hour after that, where the sale was made. None past the range.
 pub fn next_hour_there(sale: OffsetDateTime) -> Option<OffsetDateTime>
+    ensures value { let wall = sale.wall +ℤ pos nanos_per_hour in
+        SomeIff result (IsWallClock wall)
+        (wall_at (wall_multiple_below nanos_per_hour wall) sale.offset) }
     ensures whole { IfSome result (λ next.
         wall_multiple_below nanos_per_hour next.wall ≡ next.wall) }
     ensures minute { IfSome result (λ next. minute_of (wall_time next.wall) ≡ 0) }

@@ -1,6 +1,7 @@
 //! A pause that grows with each attempt.
-ghost use Rattle.std.specs.Prelude.{◌≡◌, ◌*◌, ◌+ℤ◌, ◌≤ℤ◌, pos, IfSome};
+ghost use Rattle.std.specs.Prelude.{◌≡◌, ◌*◌, ◌+ℤ◌, ◌≤ℤ◌, pos, SomeIff};
 ghost use Rattle.calendar_values.specs.Clock.{nanos_per_hour, nanos_per_second};
+ghost use Rattle.calendar_values.specs.WallClock.{IsWallClock};
 
 use calendar_values::SignedDuration;
 use stamp_times::Timestamp;
@@ -37,7 +38,8 @@ pub fn in_turn(first: Timestamp, second: Timestamp, pause: SignedDuration) -> (T
 
 /// After one pause and then another: as after both.
 pub fn after_both(at: Timestamp, first: SignedDuration, second: SignedDuration) -> Option<Timestamp>
-    ensures { IfSome result (λ end. end ≡ at +ℤ (first +ℤ second)) }
+    ensures { let end = at +ℤ (first +ℤ second) in
+        SomeIff result (IsWallClock (at +ℤ first) × IsWallClock end) end }
 {
     at.checked_add(first)?.checked_add(second)
 }

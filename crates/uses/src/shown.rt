@@ -1,8 +1,8 @@
 //! Instants as texts for a reader.
-ghost use Rattle.std.specs.Prelude.{◌≡◌, IfSome};
+ghost use Rattle.std.specs.Prelude.{◌≡◌, IfSome, ◌↔◌, IsSome, SomeIff};
 ghost use Rattle.calendar_values.specs.Calendar.{month_of};
 ghost use Rattle.calendar_values.specs.Month.{month_number};
-ghost use Rattle.calendar_values.specs.WallClock.{wall_day};
+ghost use Rattle.calendar_values.specs.WallClock.{wall_day, IsWallClock};
 ghost use Rattle.offset_times.specs.Local.{local_at, shown_at};
 ghost use Rattle.offset_times.specs.Texts.{offset_date_time_text};
 ghost use Rattle.stamp_times.specs.Instants.{instant_of_milliseconds};
@@ -23,14 +23,15 @@ pub fn text_at(milliseconds: i64, offset: UtcOffset) -> Option<Text>
 
 /// The date of an instant where the reader is. None where clocks there show no date of the range.
 pub fn date_at(at: UtcDateTime, offset: UtcOffset) -> Option<Date>
-    ensures { IfSome result (λ date. date ≡ wall_day (shown_at at offset)) }
+    ensures { let wall = shown_at at offset in SomeIff result (IsWallClock wall) (wall_day wall) }
 {
     Some(at.checked_to_offset(offset)?.date())
 }
 
 /// The month of an instant where the reader is. None where clocks there show no date of the range.
 pub fn month_at(at: UtcDateTime, offset: UtcOffset) -> Option<Month>
-    ensures { IfSome result (λ month.
+    ensures some { IsSome result ↔ IsWallClock (shown_at at offset) }
+    ensures value { IfSome result (λ month.
         month_number month ≡ month_of (wall_day (shown_at at offset))) }
 {
     Some(at.checked_to_offset(offset)?.month())

@@ -1,11 +1,12 @@
 //! Work that may take so long, and no longer.
-ghost use Rattle.std.specs.Prelude.{◌≡◌, ◌↔◌, ◌≤◌, ◌+ℤ◌, ◌-ℤ◌, ◌≤ℤ◌, ◌<ℤ◌, pos, unsigned_abs, IfSome, IsTrue};
+ghost use Rattle.std.specs.Prelude.{◌≡◌, ◌↔◌, ◌≤◌, ◌+ℤ◌, ◌-ℤ◌, ◌≤ℤ◌, ◌<ℤ◌, pos, unsigned_abs, IfSome, IsTrue, SomeIff};
 ghost use Rattle.std.specs.Duration.{as_nanos};
 ghost use Rattle.std.specs.Ordering.{int_cmp};
 ghost use Rattle.calendar_values.specs.Clock.{nanos_per_day};
 ghost use Rattle.calendar_values.specs.Durations.{whole_milliseconds_of, whole_microseconds_of};
 ghost use Rattle.calendar_values.specs.Durations.{subsec_milliseconds_of, subsec_microseconds_of, whole_seconds_of};
-ghost use Rattle.offset_times.specs.Local.{instant_of};
+ghost use Rattle.calendar_values.specs.WallClock.{IsWallClock};
+ghost use Rattle.offset_times.specs.Local.{instant_of, at_offset_of, wall_at};
 
 use calendar_values::SignedDuration;
 use offset_times::OffsetDateTime;
@@ -92,7 +93,9 @@ pub fn size_of_lag(lag: SignedDuration) -> SignedDuration
 
 /// The deadline, later by the extension. None out of range.
 pub fn extend_deadline(deadline: OffsetDateTime, by: SignedDuration) -> Option<OffsetDateTime>
-    ensures { IfSome result (λ later. instant_of later ≡ instant_of deadline +ℤ by) }
+    ensures value { let wall = deadline.wall +ℤ by in
+        SomeIff result (IsWallClock wall) (wall_at wall deadline.offset) }
+    ensures instant { IfSome result (λ later. instant_of later ≡ instant_of deadline +ℤ by) }
 {
     deadline.checked_add(by)
 }
@@ -103,7 +106,10 @@ pub fn both_extended(
     second: OffsetDateTime,
     by: SignedDuration,
 ) -> Option<(OffsetDateTime, OffsetDateTime)>
-    ensures { IfSome result (λ both. int_cmp (instant_of both.0) (instant_of both.1) ≡
+    ensures value { let one = at_offset_of first (first.wall +ℤ by) in
+        let other = at_offset_of second (second.wall +ℤ by) in
+        SomeIff result (IsWallClock one.wall × IsWallClock other.wall) (one, other) }
+    ensures order { IfSome result (λ both. int_cmp (instant_of both.0) (instant_of both.1) ≡
         int_cmp (instant_of first) (instant_of second)) }
 {
     offset_times::laws::sums_keep_the_order();

@@ -1,9 +1,9 @@
 //! Wall clocks and times of day of forms, timetables and logs, as texts without an offset.
 #![tactic(auto, using(local_texts::specs::Callers::callers))]
 
-ghost use Rattle.std.specs.Prelude.{◌≡◌, ◌↔◌, ◌⊎◌, ◌++◌, ℕ, List, IfSome, IsTrue, OkIff, is_ok};
+ghost use Rattle.std.specs.Prelude.{◌≡◌, ◌↔◌, ◌⊎◌, ◌++◌, ℕ, List, IfSome, IsTrue, OkIff, is_ok, IsSome, SomeIff};
 ghost use Rattle.local_texts.specs.Words.{IsDateTime, IsFullTime, IsLocalDateTime, IsLocalTime, AreInRange, offset_of, value_of, value_at};
-ghost use Rattle.local_texts.specs.Words.{date_time_in_utc, reading_as, wall_of_parts, time_of_parts, wall_day, wall_time};
+ghost use Rattle.local_texts.specs.Words.{date_time_in_utc, time_in_utc, reading_as, wall_of_parts, time_of_parts, wall_day, wall_time};
 ghost use Rattle.rfc3339.specs.declared.parts.Parts.{Parts};
 
 use calendar_values::{Date, Time, UtcOffset};
@@ -25,7 +25,9 @@ pub fn wall_clock_of_field(field: &[u8]) -> Result<PlainDateTime, TextRefusal>
 
 /// The wall clock that someone chose in a form. None if the field has none.
 pub fn chosen_wall_clock(field: &[u8]) -> Option<PlainDateTime>
-    ensures { IfSome result (λ chosen.
+    ensures value { (p : Parts) → IsLocalDateTime field.now p →
+        SomeIff result (AreInRange p) (wall_of_parts p) }
+    ensures form { IfSome result (λ chosen.
         (p : Parts) × IsLocalDateTime field.now p × (chosen ≡ wall_of_parts p)) }
 {
     let Ok(chosen) = parse_date_time(field) else {
@@ -36,6 +38,8 @@ pub fn chosen_wall_clock(field: &[u8]) -> Option<PlainDateTime>
 
 /// The departure on a day, at a time of day of a timetable. None if the text has no time of day.
 pub fn departure(day: Date, time: &[u8]) -> Option<PlainDateTime>
+    ensures some { IsSome result ↔
+        IsTrue (is_ok (reading_as (λ at. wall_time at.wall) (time_in_utc time.now))) }
     ensures day { IfSome result (λ at. wall_day at ≡ day) }
     ensures time { IfSome result (λ at.
         (p : Parts) × IsLocalTime time.now p × (wall_time at ≡ time_of_parts p)) }
@@ -48,7 +52,9 @@ pub fn departure(day: Date, time: &[u8]) -> Option<PlainDateTime>
 
 /// The time of day at which a shop opens, and the offset of its clocks. None if the text has none.
 pub fn opening(text: &[u8]) -> Option<(Time, UtcOffset)>
-    ensures { IfSome result (λ read. (p : Parts) × IsFullTime text.now p × AreInRange p ×
+    ensures value { (p : Parts) → IsFullTime text.now p → SomeIff result (AreInRange p)
+        (time_of_parts p, offset_of p.is_west p.offset_hour p.offset_minute) }
+    ensures form { IfSome result (λ read. (p : Parts) × IsFullTime text.now p × AreInRange p ×
         (read ≡ (time_of_parts p, offset_of p.is_west p.offset_hour p.offset_minute))) }
 {
     let Ok(read) = parse_time_with_offset(text) else {
@@ -60,7 +66,11 @@ pub fn opening(text: &[u8]) -> Option<(Time, UtcOffset)>
 /// The date-time of a stamp in the log of a place: at the offset of the stamp, or at that of the
 /// place if the stamp has none. None if it is no stamp.
 pub fn noted_at_place(stamp: &[u8], place: UtcOffset) -> Option<OffsetDateTime>
-    ensures { IfSome result (λ at.
+    ensures own { (p : Parts) → IsDateTime stamp.now p →
+        SomeIff result (AreInRange p) (value_of p) }
+    ensures assumed { (p : Parts) → IsLocalDateTime stamp.now p →
+        SomeIff result (AreInRange p) (value_at place p) }
+    ensures form { IfSome result (λ at.
         ((p : Parts) × IsDateTime stamp.now p × AreInRange p × (at ≡ value_of p)) ⊎
         ((p : Parts) × IsLocalDateTime stamp.now p × AreInRange p × (at ≡ value_at place p))) }
 {
