@@ -7,6 +7,7 @@ mod CutLemmas
 mod KindLemmas
 mod ItemLemmas
 mod ReadLemmas
+mod UsualLemmas
 mod NumberAgainLemmas
 mod NameAgainLemmas
 mod NameReadLemmas

@@ -38,6 +38,7 @@ mod pieces;
 mod read;
 mod reading;
 mod unix;
+mod usual;
 mod value_refusal;
 mod values;
 mod well_known;

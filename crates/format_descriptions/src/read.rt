@@ -11,6 +11,7 @@ use crate::item::{behind, fault_after, is_other, size_of};
 use crate::parts::{fits, fits_choice, fits_signed, signed};
 use crate::reading::{after_mark, two};
 use crate::unix::unix_at;
+use crate::usual::date_and_clock_into;
 use crate::words::{month, weekday};
 use crate::{Component, Item, Parts, Sign, UnixPrecision, YearBase};
 
@@ -135,8 +136,7 @@ fn front_of<'a>(items: &[Item], text: &'a [u8], parts: &mut Parts) -> Result<&'a
     ensures shorter { IfOk result (λ rest. length rest.now ≤ length text.now) }
     ensures left { IfErr result (λ left. left ≤ length text.now) }
 {
-    let mut items = items;
-    let mut rest = text;
+    let (mut items, mut rest) = date_and_clock_into(items, text, parts);
     while let Some((item, others)) = items.split_first() {
         if let Item::Byte(byte) = item {
             let Some(more) = after_mark(*byte, rest) else {

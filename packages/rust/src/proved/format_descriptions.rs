@@ -36,6 +36,7 @@ mod pieces;
 mod read;
 mod reading;
 mod unix;
+mod usual;
 mod value_refusal;
 mod values;
 mod well_known;

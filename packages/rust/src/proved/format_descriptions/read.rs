@@ -7,6 +7,7 @@ use crate::proved::format_descriptions::item::{behind, fault_after, is_other, si
 use crate::proved::format_descriptions::parts::{fits, fits_choice, fits_signed, signed};
 use crate::proved::format_descriptions::reading::{after_mark, two};
 use crate::proved::format_descriptions::unix::unix_at;
+use crate::proved::format_descriptions::usual::date_and_clock_into;
 use crate::proved::format_descriptions::words::{month, weekday};
 use crate::proved::format_descriptions::{Component, Item, Parts, Sign, UnixPrecision, YearBase};
 
@@ -179,8 +180,7 @@ pub fn parse_front_into<'a>(
 /// [docs/proofs/STATEMENT.md](crate::proved#contracts) explains the words.
 #[inline(always)]
 fn front_of<'a>(items: &[Item], text: &'a [u8], parts: &mut Parts) -> Result<&'a [u8], usize> {
-    let mut items = items;
-    let mut rest = text;
+    let (mut items, mut rest) = date_and_clock_into(items, text, parts);
     while let Some((item, others)) = items.split_first() {
         if let Item::Byte(byte) = item {
             let Some(more) = after_mark(*byte, rest) else {
