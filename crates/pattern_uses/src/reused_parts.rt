@@ -1,5 +1,6 @@
 //! Texts that are read into one set of parts, one after another.
-ghost use Rattle.std.specs.Prelude.{◌≡◌, ◌++◌, List, ℕ, Ok, Some, IfSome, false};
+ghost use Rattle.std.specs.Prelude.{◌≡◌, ◌↔◌, ◌++◌, List, ℕ, Ok, Some, IfSome, IsSome, IsTrue};
+ghost use Rattle.std.specs.Prelude.{is_ok, false};
 ghost use Rattle.format_descriptions.specs.Choices.{IsChoice};
 ghost use Rattle.format_descriptions.specs.Read.{front_of, no_parts};
 ghost use Rattle.format_descriptions.specs.Spelled.{Spells};
@@ -27,6 +28,8 @@ pub fn next_date(pattern: &[Item], text: &[u8], parts: &mut Parts) -> Option<Dat
 pub fn period(pattern: &[Item], first: &[u8], last: &[u8]) -> Option<(Date, Date)>
     ensures first { IfSome result (λ both. date_in pattern.now first.now ≡ Some both.0) }
     ensures last { IfSome result (λ both. date_in pattern.now last.now ≡ Some both.1) }
+    ensures some { IsSome result ↔
+        (IsSome (date_in pattern.now first.now) × IsSome (date_in pattern.now last.now)) }
 {
     let mut parts = Parts::none();
     let first = next_date(pattern, first, &mut parts)?;
@@ -48,7 +51,9 @@ pub fn date_and_words<'a>(pattern: &[Item], line: &'a [u8]) -> Option<(Date, &'a
 
 /// The part of a line after what a pattern reads at its front. None if the line does not begin so.
 pub fn words_after<'a>(pattern: &[Item], line: &'a [u8]) -> Option<&'a [u8]>
-    ensures { IfSome result (λ words. (chosen : List Item) × (front : List ℕ) × (parts : Parts) ×
+    ensures some { IsSome result ↔ IsTrue (is_ok (front_of pattern.now line.now no_parts)) }
+    ensures words { IfSome result (λ words.
+        (chosen : List Item) × (front : List ℕ) × (parts : Parts) ×
         IsChoice false pattern.now chosen × Spells chosen front no_parts parts ×
         (line.now ≡ front ++ words.now)) }
 {
