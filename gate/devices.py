@@ -1,12 +1,20 @@
 """Runs a program over devices that hand over their bytes in parts, or that fail after so many bytes."""
 
+import array
+import contextlib
+import fcntl
+import os
 import resource
 import socket
 import subprocess
 import tempfile
+import termios
+import threading
+import time
 from collections import namedtuple
 
-SECONDS = 60
+# How many seconds a program may take that takes one on a machine with nothing else to do.
+SECONDS = 600
 
 # What a program wrote to standard output and to standard error, and its exit status.
 Ended = namedtuple("Ended", "written told status")
@@ -77,3 +85,57 @@ def run_on_broken(program, data):
 
     with theirs:
         return run_over(program, theirs, feed)
+
+
+def parts_of(data, size):
+    """The parts of so many bytes each."""
+    return [data[start : start + size] for start in range(0, len(data), size)]
+
+
+def make_input(path, text):
+    """Writes a file, or makes a pipe if its text comes in parts."""
+    if isinstance(text, list):
+        os.mkfifo(path)
+    else:
+        with open(path, "wb") as file:
+            file.write(text)
+
+
+def unread(pipe):
+    """How many bytes nothing has read yet."""
+    count = array.array("i", [0])
+    fcntl.ioctl(pipe, termios.FIONREAD, count)
+    return count[0]
+
+
+def feed_pipe(path, parts, is_over):
+    """Hands over the parts to a program that opens the pipe, one for each read of it, until the program is over."""
+    while not is_over.is_set():
+        with contextlib.suppress(OSError):
+            pipe = os.open(path, os.O_WRONLY | os.O_NONBLOCK)
+            break
+        time.sleep(0.01)
+    else:
+        return
+    os.set_blocking(pipe, True)
+    with contextlib.suppress(BrokenPipeError), open(pipe, "wb", buffering=0) as file:
+        for part in parts:
+            file.write(part)
+            while unread(file) and not is_over.is_set():
+                time.sleep(0.001)
+
+
+@contextlib.contextmanager
+def feed_pipes(folder, names, files):
+    """Feeds the pipes of these names among the files while a program runs."""
+    is_over, feeders = threading.Event(), []
+    for name in names:
+        if isinstance(files.get(name), list):
+            feeders.append(threading.Thread(target=feed_pipe, args=(os.path.join(folder, name), files[name], is_over)))
+            feeders[-1].start()
+    try:
+        yield
+    finally:
+        is_over.set()
+        for feeder in feeders:
+            feeder.join()

@@ -19,6 +19,7 @@ from shared.erasure import (
     sources,
 )
 from shared.gate import GATE, REPOSITORY, read_text, write_text
+from shared.test_crates import files_of, module_of
 
 OWN = os.path.join(GATE, "erased_sources")
 
@@ -135,12 +136,10 @@ def make_tests(folder):
     head = read(OWN, "tests.rs")
     for crate in CRATES:
         head += f"\nmod {crate};"
-        for _, path in sources(crates=(f"{crate}_tests",), left_out=()):
-            if path != "lib.rt":
-                text = Test(*source_text(f"{crate}_tests", path), "").erase()
-                lead = f"#[allow(unused_imports)]\nuse crate::{MODULE}::erased_tests::ToList;\n"
-                place = f"{crate}.rs" if path == "tests.rt" else os.path.join(crate, path[len("tests/") : -len(".rt")] + ".rs")
-                write(lead + text, made, "erased_tests", place)
+        for path, text in files_of(crate).items():
+            text = Test(f"crates/{crate}/tests/{path}", text, "").erase()
+            lead = f"#[allow(unused_imports)]\nuse crate::{MODULE}::erased_tests::ToList;\n"
+            write(lead + text, made, "erased_tests", os.path.join(crate, *module_of(path)) + ".rs")
     write(head + "\n", made, "erased_tests.rs")
 
 

@@ -21,7 +21,7 @@ TARGETS = (
 )
 
 # The oldest rustc that the package is for.
-OLDEST = (1, 87)
+OLDEST = (1, 85)
 
 
 class Compiler:

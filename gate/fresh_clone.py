@@ -39,8 +39,8 @@ NOT_OURS = (
 # The programs and the archive, by their crates, as each lies in `out` of its crate.
 BUILT = {"times_bench": "times_bench", "stamps": "stamps", "muxandu_c": ARCHIVE}
 
-# The most seconds that a block of commands has.
-LONGEST = 300
+# The most seconds that a block of commands has, which ends one that hangs. A machine with much to do needs most of them.
+LONGEST = 3_000
 
 IDENTITY = "[user]\n\tname = A Newcomer\n\temail = newcomer@example.org\n[init]\n\tdefaultBranch = main\n"
 

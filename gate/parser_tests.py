@@ -1,16 +1,19 @@
-"""Cases of gate/gate_tests over the readers of sources on which the gate rests: `items`, `definitions` and `wrong`, and the two
-lists that read names and the places of wrong bodies, `participles` and `misplaced`."""
+"""Cases of gate/gate_tests over the readers of sources on which the gate rests: `items`, `definitions`, `wrong` and `test_crates`,
+and over `crate_tests`, `participles` and `misplaced`, which read what is printed, names, and the places of wrong bodies."""
 
 import contextlib
 import importlib.machinery
 import importlib.util
+import io
 import os
+import subprocess
 import tempfile
 
 from shared.definitions import declarations, imports, module_of, words_of
-from shared.gate import GATE, write_text
+from shared.gate import GATE, Tally, read_text, write_text
 from shared.items import contracts, exports_of, first_sentence, implementations, public_items
 from shared.seen import modules_that_see
+from shared.test_crates import folders_of_no_crate, is_no_library, is_top, lay_inside, lay_out, tests_of
 from shared.wrong import Wrong, is_in_function, put_body, read, right_bodies, unread_files, wrong_bodies
 
 ROOT = """//! A library.
@@ -86,7 +89,7 @@ FILES = {
     "crates/one/src/hidden.rt": HIDDEN,
     "crates/one/src/open.rt": OPEN,
     "crates/one/src/tests.rt": "pub fn test() {}\n",
-    "crates/one_tests/src/lib.rt": "pub fn other() {}\n",
+    "crates/one/tests/mod.rs": "pub fn other() {}\n",
     "crates/uses/src/lib.rt": "pub fn caller() {}\n",
 }
 
@@ -267,7 +270,7 @@ def files_without_bodies_have_none():
 def files_of_another_ending_are_named():
     with tempfile.TemporaryDirectory() as folder:
         others = ("wrong/adds_two.edit", "wrong/notes.txt", "must-fail/lib.edits", "right/lib.edits")
-        crate_with(folder, **{"wrong/lib.edits": EDITS, **dict.fromkeys(others, EDIT)})
+        crate_with(folder, **{"wrong/lib.edits": EDITS, "wrong/VERDICTS": "", **dict.fromkeys(others, EDIT)})
         assert {os.path.relpath(path, folder) for path in unread_files(folder)} == set(others)
         assert [each.name for each in wrong_bodies(folder, parts=["wrong"])] == ["adds_two", "adds_nothing", "breaks"]
 
@@ -427,3 +430,142 @@ def places_of_wrong_bodies_are_those_of_their_sources():
             sources = {"crates/one/src/lib.rt": "fn next { n + 1 }\nfn last { n + 1; return }\n"}
             fault = misplaced.fault_of_place(sources, "one", wrong_bodies(folder, parts=["wrong"])[0])
             assert fault == problem, f"{sorted(files)}: {fault}"
+
+
+# A repository of four crates: two libraries with tests, a static library with tests, and a program.
+TESTED = {
+    "crates.txt": "# Each crate.\none:\ntwo: one\nfor_c staticlib: one two\nprogram: one two\n",
+    "crates/one/src/lib.rt": "",
+    "crates/one/tests/mod.rs": "mod days;\nmod days_of_weeks;\n\n#[test]\nfn first(rt: HostRuntime) {}\n",
+    "crates/one/tests/days.rs": "#[test]\n#[tactic(auto)]\n// A day.\nfn begins() {}\n\nfn helper() {}\n",
+    "crates/one/tests/days_of_weeks.rs": "mod short;\n",
+    "crates/one/tests/days_of_weeks/short.rs": "use one::Day;\n\n#[test]\nfn ends() {}\n",
+    "crates/two/src/lib.rt": "",
+    "crates/two/tests/mod.rs": "use one::Day;\nuse two::Week;\n\n#[test]\nfn begins() {}\n",
+    "crates/for_c/src/lib.rt": "mod calls;\n",
+    "crates/for_c/tests/mod.rs": "use crate::calls::call;\n",
+    "crates/program/src/main.rt": "",
+    "crates/gone/tests/mod.rs": "",
+}
+
+
+@contextlib.contextmanager
+def tested_repository(**more):
+    """The path of that repository, with these files of tests of `one` too."""
+    with tempfile.TemporaryDirectory() as root:
+        for path, text in {**TESTED, **{f"crates/one/tests/{name}": text for name, text in more.items()}}.items():
+            write_text(os.path.join(root, path), text)
+        yield root
+
+
+def names_of_tests(root):
+    """The names of the tests of `one`, or why they cannot be read."""
+    try:
+        return sorted(tests_of("one", root))
+    except ValueError as error:
+        return str(error)
+
+
+def tests_are_named_by_their_files():
+    with tested_repository() as root:
+        names = names_of_tests(root)
+        assert names == ["days::begins", "days_of_weeks::short::ends", "first"], names
+        assert folders_of_no_crate(root) == ["gone"], folders_of_no_crate(root)
+    for name, text in (("more.rt", ""), ("more.rs", "#[test]\nstruct NoTest;\n")):
+        with tested_repository(**{name: text}) as root:
+            said = names_of_tests(root)
+            assert f"crates/one/tests/{name} is no file of tests" in said, said
+
+
+def tests_of_libraries_are_laid_out_as_one_crate():
+    with tested_repository() as root:
+        assert lay_out(root, "both", ["one", "two"]) == {"one": "one_tests", "two": "two_tests"}
+        assert read_text(os.path.join(root, "crates.txt")).endswith("\nboth: one two\n")
+        source, found = os.path.join(root, "crates", "both", "src"), {}
+        for folder, _, names in os.walk(source):
+            found.update((os.path.relpath(os.path.join(folder, name), source), os.path.join(folder, name)) for name in names)
+        wanted = {
+            "lib.rt",
+            "one_tests.rt",
+            "one_tests/days.rt",
+            "one_tests/days_of_weeks.rt",
+            "one_tests/days_of_weeks/short.rt",
+            "two_tests.rt",
+        }
+        assert set(found) == wanted, sorted(found)
+        assert read_text(found["lib.rt"]).endswith("\n#[cfg(test)]\nmod one_tests;\n\n#[cfg(test)]\nmod two_tests;\n")
+        assert read_text(found["two_tests.rt"]) == TESTED["crates/two/tests/mod.rs"]
+
+
+def tests_of_no_library_are_inside_of_their_crate():
+    with tested_repository() as root:
+        assert [name for name in ("one", "two", "for_c", "program") if is_no_library(root, name)] == ["for_c", "program"]
+        assert [name for name in ("one", "two", "for_c", "program") if is_top(root, name)] == ["for_c", "program"]
+        assert lay_inside(root, "for_c") == lay_inside(root, "two") == "tests"
+        assert read_text(os.path.join(root, "crates", "for_c", "src", "lib.rt")) == "mod calls;\n\n#[cfg(test)]\nmod tests;\n"
+        inside = read_text(os.path.join(root, "crates", "two", "src", "tests.rt"))
+        assert inside == "use one::Day;\nuse crate::Week;\n\n#[test]\nfn begins() {}\n", inside
+
+
+class LaidOut:
+    """Tests of a crate `one`, as crate_tests has them."""
+
+    name, crates = "both", ["one"]
+    names = {("one", name): f"one_tests::{name}" for name in ("first", "second", "third")}
+
+    def of(self, wanted):
+        return wanted
+
+
+def judged_of(count):
+    """What is counted, and what is told, of a call of `crate_tests` with a tally."""
+    tally, said = Tally(), io.StringIO()
+    with contextlib.redirect_stdout(said):
+        count(tally)
+    return (tally.passed, tally.failed), said.getvalue()
+
+
+def tests_that_fail_or_do_not_run_are_named():
+    crate_tests = list_of("crate_tests")
+    fails = "test one_tests::second ... FAILED\n    1 is not 2\ntest result: FAILED. 1 passed; 1 failed\n"
+    for printed, status, counts, told in (
+        (
+            f"tests: 2\ntest one_tests::first ... ok\n{fails}",
+            1,
+            (1, 2),
+            ["one: second: FAILED: it does not pass", "1 is not 2", "one: third: FAILED: it did not run"],
+        ),
+        ("".join(f"test {name} ... ok\n" for name in LaidOut.names.values()), 0, (3, 0), ["one: 3 tests pass"]),
+        (
+            "".join(f"test {name} ... ok\n" for name in LaidOut.names.values()),
+            1,
+            (3, 1),
+            ["the end of the tests of one: FAILED: status 1"],
+        ),
+        (
+            "src/one_tests.rt:1:1: error[unknown-name]: no Day\n",
+            1,
+            (0, 3),
+            ["error[unknown-name]: no Day", "one: first: FAILED: it did not run"],
+        ),
+    ):
+        ended = subprocess.CompletedProcess([], status, printed)
+        counted, said = judged_of(lambda tally: crate_tests.count_runs(tally, LaidOut(), list(LaidOut.names), ended))
+        assert counted == counts, f"{counted}: {said}"
+        assert all(line in said for line in told), said
+
+
+def tests_that_are_not_proved_are_named():
+    crate_tests = list_of("crate_tests")
+    second = "fn both::one_tests::second: not proved: it calls both::one_tests::help\n"
+    proofs, wanted = object.__new__(crate_tests.Proofs), list(LaidOut.names)
+    for proved in ("proved", "proved, may abort"):
+
+        def count(tally, printed=f"fn both::one_tests::first: {proved}\n{second}"):
+            proofs.tally = tally
+            assert proofs.count(LaidOut(), wanted, printed) == wanted[1:]
+
+        counted, said = judged_of(count)
+        assert counted == (1, 2), said
+    assert "one: second, its proof: FAILED: it is not proved\nfn both::one_tests::second: not proved" in said, said
+    assert "one: third, its proof: FAILED" in said and "one: first, its proof\n" in said, said

@@ -1,4 +1,4 @@
-# What ./bench, ./stamps, ./build-library and ./test share: they print how they are called. They set `command`, their name.
+# What ./bench, ./stamps and ./build-library share: they print how they are called. They set `command`, their name.
 
 : "${command:?}"
 

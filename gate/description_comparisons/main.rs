@@ -1,6 +1,8 @@
-//! Random descriptions, by which both packages write random values and read what they wrote, and texts with a byte changed.
+//! Random descriptions, by which both packages write random values and read what they wrote, and texts with a byte changed. They read
+//! each text in groups of items too, some of which fail, and must know the same parts after each.
 
 use std::collections::BTreeMap;
+use std::fmt::Debug;
 
 /// The components that both have, with their modifiers.
 const DATES: [&str; 20] = [
@@ -112,11 +114,19 @@ impl Value {
     }
 }
 
+/// What is left of a text behind a group of items, or the error, and the parts that are known then.
+#[derive(Debug, PartialEq)]
+struct Group {
+    left: Result<usize, String>,
+    parts: String,
+}
+
 macro_rules! package {
     ($name:ident, $crate_name:ident) => {
         mod $name {
-            use super::Value;
+            use super::{Group, Value};
             use $crate_name::format_description::FormatItem;
+            use $crate_name::parsing::Parsed;
             use $crate_name::{Date, OffsetDateTime, Time, UtcOffset};
 
             pub fn items(text: &str) -> Option<Vec<FormatItem<'_>>> {
@@ -129,6 +139,38 @@ macro_rules! package {
                     .replace_nanosecond(value.nanosecond)
                     .unwrap()
                     .to_offset(UtcOffset::from_whole_seconds(value.offset).unwrap())
+            }
+
+            /// The parts that are known.
+            fn parts_of(parsed: &Parsed) -> String {
+                let years = (parsed.year(), parsed.year_last_two(), parsed.iso_year(), parsed.iso_year_last_two());
+                let weeks = (parsed.iso_week_number(), parsed.sunday_week_number(), parsed.monday_week_number());
+                let days = (parsed.month(), parsed.day(), parsed.ordinal(), parsed.weekday());
+                let hours = (parsed.hour_24(), parsed.hour_12(), parsed.hour_12_is_pm());
+                let below = (parsed.minute(), parsed.second(), parsed.subsecond());
+                // The peer gives no sign to the parts below the hour.
+                let below_hour = [parsed.offset_minute_signed(), parsed.offset_second_signed()];
+                let offset = (parsed.offset_hour(), below_hour.map(|part| part.map(i8::unsigned_abs)));
+                format!("{years:?} {weeks:?} {days:?} {hours:?} {below:?} {offset:?}")
+            }
+
+            /// What the front of a text is read as by groups of items, some of which fail.
+            pub fn read_groups(text: &str, items: &[FormatItem<'_>]) -> [Group; 5] {
+                let all = FormatItem::Compound(items);
+                let rest = FormatItem::Compound(items.get(1..).unwrap_or_default());
+                let (whole_first, rest_first) = ([all.clone(), rest.clone()], [rest.clone(), all.clone()]);
+                let groups = [
+                    all.clone(),
+                    FormatItem::Optional(&all),
+                    FormatItem::Optional(&rest),
+                    FormatItem::First(&whole_first),
+                    FormatItem::First(&rest_first),
+                ];
+                groups.map(|group| {
+                    let mut parsed = Parsed::new();
+                    let read = parsed.parse_item(text.as_bytes(), &group);
+                    Group { left: read.map(<[u8]>::len).map_err(|error| format!("{error:?}")), parts: parts_of(&parsed) }
+                })
             }
 
             /// What is written, and what a text is read as: a date, a time of day, an offset and a date-time.
@@ -151,26 +193,47 @@ macro_rules! package {
 package!(here, muxandu);
 package!(there, time);
 
+/// Whether a description names a part twice, so that its second text may contradict the first.
+fn repeats_a_part(description: &str) -> bool {
+    let is_repeated = |words: &[&str]| words.iter().map(|word| description.matches(word).count()).sum::<usize>() > 1;
+    is_repeated(&["[year"])
+        || is_repeated(&["[month", "[day", "[ordinal", "[week"])
+        || is_repeated(&["[hour", "[period"])
+        || ["[minute", "[second", "[subsecond", "[offset_hour", "[offset_minute", "[offset_second"]
+            .iter()
+            .any(|word| is_repeated(&[word]))
+}
+
+const CONTRADICTION: &str = "a part that contradicts another is an error";
+const OTHER_RANGE: &str = "a part that the type has not may be out of its range";
+
+/// Whether a text has a year of more than four digits, which only a feature of the peer reads.
+fn has_long_year(text: &str) -> bool {
+    text.split(['-', '+']).skip(1).any(|rest| rest.len() > 4 && rest.bytes().take(5).all(|byte| byte.is_ascii_digit()))
+}
+
+/// Why a group may fit another part of the text for one of the two, as docs/guide/RUST.md states it, or None. If it fits the same part,
+/// both know the same.
+fn reason_of_group(description: &str, text: &str, here: &Group, there: &Group) -> Option<&'static str> {
+    let has = |words: &[&str]| words.iter().any(|word| description.contains(word));
+    match here.left == there.left {
+        true => None,
+        false if repeats_a_part(description) => Some(CONTRADICTION),
+        false if has(&["[month", "[day", "[ordinal", "[week_number]", "repr:12"]) => Some(OTHER_RANGE),
+        false => (has(&["[year"]) && has_long_year(text)).then_some("a year has up to six digits after a sign"),
+    }
+}
+
 /// Why the two may differ, as docs/guide/RUST.md states it, or None.
 fn reason_of(description: &str, text: &str, kind: usize, here: &Option<String>, there: &Option<String>) -> Option<&'static str> {
     let has = |word: &str| description.contains(word);
-    let is_repeated = |words: &[&str]| words.iter().map(|word| description.matches(word).count()).sum::<usize>() > 1;
     match (here, there) {
         _ if kind >= 2 && (text.contains("-00") || has("[offset_hour padding:none]") && text.contains("-0")) => {
             Some("an offset of no hours keeps its sign")
         }
-        (None, Some(_))
-            if is_repeated(&["[year"])
-                || is_repeated(&["[month", "[day", "[ordinal", "[week"])
-                || is_repeated(&["[hour", "[period"])
-                || ["[minute", "[second", "[subsecond", "[offset_hour", "[offset_minute", "[offset_second"]
-                    .iter()
-                    .any(|word| is_repeated(&[word])) =>
-        {
-            Some("a part that contradicts another is an error")
-        }
+        (None, Some(_)) if repeats_a_part(description) => Some(CONTRADICTION),
         (Some(_), None) if kind % 2 == 1 && !has("[minute") => Some("a time of day needs no minute"),
-        (Some(_), None) if kind < 3 => Some("a part that the type has not may be out of its range"),
+        (Some(_), None) if kind < 3 => Some(OTHER_RANGE),
         (Some(_), None) if kind >= 2 && (text.contains("-2") || text.contains("+2") || text.contains(" 2")) => {
             Some("an offset may have 24 and 25 hours")
         }
@@ -178,55 +241,82 @@ fn reason_of(description: &str, text: &str, kind: usize, here: &Option<String>, 
     }
 }
 
+/// How many answers were compared, how many were wrong, and how often each difference was seen that is stated.
+#[derive(Default)]
+struct Counts {
+    compared: u64,
+    wrong: u64,
+    stated: BTreeMap<&'static str, u64>,
+}
+
+impl Counts {
+    /// Prints a wrong answer, if it is one of the first.
+    fn tell(&mut self, told: String) {
+        self.wrong += 1;
+        if self.wrong < 30 {
+            println!("{told}");
+        }
+    }
+
+    /// Counts the answers of both to a question. The reason is that for which they may differ.
+    fn compare<T: Debug + PartialEq>(&mut self, asked: &str, here: &T, there: &T, reason: Option<&'static str>) {
+        self.compared += 1;
+        match reason {
+            _ if here == there => {}
+            Some(why) => *self.stated.entry(why).or_insert(0) += 1,
+            None => self.tell(format!("{asked} is {here:?} here, {there:?} there")),
+        }
+    }
+}
+
+/// A text, and the same with a byte changed.
+fn with_a_change(text: &str, random: &mut Random) -> Vec<String> {
+    let mut texts = vec![text.to_owned()];
+    let mut bytes = text.to_owned().into_bytes();
+    if !bytes.is_empty() {
+        let place = random.below(bytes.len() as u64) as usize;
+        bytes[place] = b"0123456789 -+:APMap"[random.below(19) as usize];
+        texts.extend(String::from_utf8(bytes));
+    }
+    texts
+}
+
+/// Compares what both write and read by a description.
+fn compare_by(description: &str, random: &mut Random, counts: &mut Counts) {
+    let (Some(here), Some(there)) = (here::items(description), there::items(description)) else {
+        return counts.tell(format!("{description} is a description for one of them"));
+    };
+    let value = Value::random(random);
+    let (ours, theirs) = (here::write_value(&value, &here), there::write_value(&value, &there));
+    counts.compare(&format!("what {description} writes"), &ours, &theirs, None);
+    let Some(text) = ours.filter(|text| theirs.as_ref() == Some(text)) else {
+        return;
+    };
+    for text in with_a_change(&text, random) {
+        let asked = format!("what {description} reads in {text:?}");
+        for (ours, theirs) in here::read_groups(&text, &here).iter().zip(&there::read_groups(&text, &there)) {
+            let reason = reason_of_group(description, &text, ours, theirs);
+            counts.compare(&format!("{asked} by a group"), ours, theirs, reason);
+        }
+        let (ours, theirs) = (here::read(&text, &here), there::read(&text, &there));
+        for (kind, (ours, theirs)) in ours.iter().zip(&theirs).enumerate() {
+            let reason = reason_of(description, &text, kind, ours, theirs);
+            counts.compare(&format!("{asked} ({kind})"), ours, theirs, reason);
+        }
+    }
+}
+
 fn main() {
     let mut words = std::env::args().skip(1).map(|word| word.parse::<u64>().expect("a number"));
     let rounds = words.next().unwrap_or(100_000);
     let mut random = Random(words.next().unwrap_or(1).wrapping_mul(0x9e37_79b9_7f4a_7c15) | 1);
-    let (mut compared, mut wrong) = (0_u64, 0_u64);
-    let mut differences = BTreeMap::new();
+    let mut counts = Counts::default();
     for _ in 0..rounds {
         let description = description(&mut random);
-        let (Some(here), Some(there)) = (here::items(&description), there::items(&description)) else {
-            wrong += 1;
-            println!("{description} is a description for one of them");
-            continue;
-        };
-        let value = Value::random(&mut random);
-        let (ours, theirs) = (here::write_value(&value, &here), there::write_value(&value, &there));
-        compared += 1;
-        let (Some(text), true) = (&ours, ours == theirs) else {
-            wrong += 1;
-            println!("{description} writes {ours:?} here, {theirs:?} there");
-            continue;
-        };
-        let mut texts = vec![text.clone()];
-        let mut bytes = text.clone().into_bytes();
-        if !bytes.is_empty() {
-            let place = random.below(bytes.len() as u64) as usize;
-            bytes[place] = b"0123456789 -+:APMap"[random.below(19) as usize];
-            texts.extend(String::from_utf8(bytes));
-        }
-        for text in texts {
-            let (ours, theirs) = (here::read(&text, &here), there::read(&text, &there));
-            for (kind, (ours, theirs)) in ours.iter().zip(&theirs).enumerate() {
-                compared += 1;
-                if ours == theirs {
-                    continue;
-                }
-                match reason_of(&description, &text, kind, ours, theirs) {
-                    Some(why) => *differences.entry(why).or_insert(0_u64) += 1,
-                    None => {
-                        wrong += 1;
-                        if wrong < 30 {
-                            println!("{description} reads {text:?} as {ours:?} here, {theirs:?} there ({kind})");
-                        }
-                    }
-                }
-            }
-        }
+        compare_by(&description, &mut random, &mut counts);
     }
-    for (why, count) in differences {
+    for (why, count) in counts.stated {
         println!("stated|{why}|{count}");
     }
-    println!("compared|{rounds}|{compared}|{wrong}");
+    println!("compared|{rounds}|{}|{}", counts.compared, counts.wrong);
 }

@@ -7,7 +7,7 @@ use std::hint::black_box;
 use library::error::ComponentRange;
 use library::ext::{NumericalDuration, NumericalStdDuration};
 use library::format_description::well_known::Rfc3339;
-use library::{Date, Duration, Month, OffsetDateTime, PrimitiveDateTime, Time, UtcOffset, Weekday};
+use library::{Date, Duration, Month, OffsetDateTime, PrimitiveDateTime, Time, UtcOffset, Weekday, util};
 
 use crate::source::Input;
 
@@ -111,6 +111,19 @@ macro_rules! put {
     ($out:expr, $($value:expr),+ $(,)?) => {
         $($value.put_answer($out);)+
     };
+}
+
+/// The lengths of a month and a year.
+#[allow(deprecated)]
+fn put_lengths_of_years(date: Date, out: &mut Answers) {
+    let year = date.year();
+    put!(
+        out,
+        util::days_in_year_month(year, date.month()),
+        util::days_in_year(year),
+        util::is_leap_year(year),
+        util::weeks_in_year(year)
+    );
 }
 
 /// The reads of the date, which all types have.
@@ -314,7 +327,8 @@ pub fn answers(input: &Input, out: &mut Answers) {
         duration.subsec_nanoseconds(),
         duration.as_seconds_f64().to_bits() as i64,
         Duration::seconds_f64(input.second as f64 + part),
-        Duration::seconds(input.second) * part,
+        // 0.3.9 rounds to 53 bits, which hold the seconds of any date and 256ths.
+        Duration::seconds(input.second) * (f64::from(input.small % 256) / 256.0),
         Duration::seconds(input.second) / f64::from(1_u32 << (input.small % 9)),
         part.weeks() + part.days() - part.hours(),
         part.minutes() - part.seconds(),
@@ -335,6 +349,7 @@ pub fn answers(input: &Input, out: &mut Answers) {
     };
     put_date_reads!(out, date);
     put!(out, date.next_day(), date.previous_day());
+    put_lengths_of_years(date, out);
     put!(
         out,
         date.midnight(),

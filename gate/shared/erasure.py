@@ -36,6 +36,7 @@ TAKEN_OUT = {
     "clause": "what a function requires and ensures; it stays as text under the heading Contract",
     "tactic": "attributes that tell the prover how to search",
     "impl Model": "the number that contracts see of a type, with its proofs; no code is in it",
+    "impl PartialEq": "equality of the types below, which is that of their numbers; its contract stays at `Eq`",
     "use Model": "imports of that trait alone",
     "derive(Drop)": "the mark of types that may be dropped, as all may be in Rust",
     "derive(Debug)": "the text for programmers of a type with a niche, which the package writes by hand without that field",
@@ -58,6 +59,8 @@ PUT_IN = {
     "const": "`const` on the functions that rustc takes with it: const.txt",
     "closed": "`(in crate::proved)` after the `pub` of functions that requires.txt closes, and of a `pub use` of them",
     "niche": "the field `niche` of the types below, and its only value in their literals, so that an `Option` of one takes no more room",
+    "equality": "`PartialEq` in the `derive` of the types below, so that their constants are patterns",
+    "str": "`core::` before `str::from_utf8`, which rustc has as a function of the type since 1.87 alone",
     "inherent": "methods of the traits below as methods of their types too, which need no import and can be const",
     "contract": "the contract as text",
     "example": "the imports and the result that an example of the documentation has in Rust",
@@ -72,6 +75,11 @@ OF_CRATES_APART = ("AsUtc", "Assume", "Rfc3339", "ToOffset", "ToTimestamp")
 # The types that get a field with a niche. Each has room for it between its fields, but for `UtcOffset`.
 WITH_NICHE = ("Date", "SignedDuration", "Time", "Timestamp", "UtcOffset")
 NICHE = f"crate::{MODULE}::memory::Niche"
+
+# The types that are equal if their numbers are. A Model with an inverse proves that equal numbers have equal fields, so that equality
+# by fields, which Rust derives, is the same.
+BY_FIELDS = ("Date", "PlainDateTime", "SignedDuration", "Time", "Timestamp", "UtcDateTime", "UtcOffset")
+OF_NUMBERS = ("int_eq", "◌==◌")
 
 # What the package writes by hand, and a package of the erased text alone needs.
 BY_PACKAGE = f"""\
@@ -93,7 +101,7 @@ RATTLE_WORDS = ("Abort", "HostRuntime", "Net", "Processes", "Threads", "Wait", "
 PROOF = re.compile(r"\bPrim\.")
 
 # What a comment goes with where it is taken out.
-WHOLE = ("ghost use", "ghost member", "clause", "impl Model", "use Model", "module left out")
+WHOLE = ("ghost use", "ghost member", "clause", "impl Model", "impl PartialEq", "use Model", "module left out")
 
 CONTRACT_END = "[docs/proofs/STATEMENT.md](crate::proved#contracts) explains the words."
 PRELUDE = (f"use {NAME}::{MODULE}::*;", "fn main() -> Result<(), Box<dyn std::error::Error>> {")
@@ -158,7 +166,7 @@ class Source:
         self.tokens = Lexer(path, text).tokens()
         self.places = {token.at: place for place, token in enumerate(self.tokens)}
         self.code = [token for token in self.tokens if token.is_code]
-        self.counts = {}
+        self.counts, self.equalities = {}, {}
         self.closes, self.opens = {}, {}
         self.match_brackets()
 
@@ -234,7 +242,10 @@ class Source:
         for name in names:
             if self.code[name].text not in DERIVES:
                 self.refuse(self.code[name].at, f"`derive({self.code[name].text})` is not known")
-        has_niche = self.has(end + 1, "pub struct") and self.code[end + 3].text in WITH_NICHE
+        struct = self.code[end + 3].text if self.has(end + 1, "pub struct") else ""
+        has_niche = struct in WITH_NICHE
+        if struct in BY_FIELDS:
+            self.put_equality(end)
         for name in names:
             if self.code[name].text != "Drop" and not (has_niche and self.code[name].text == "Debug"):
                 continue
@@ -245,6 +256,26 @@ class Source:
                 self.take_out(name, name + 1, reason)
             else:
                 self.take_out(name - 1, name, reason)
+
+    def put_equality(self, end):
+        """Puts `PartialEq` into the `derive` that ends here, above a type whose number has one value."""
+        name = self.code[end + 3]
+        model = re.search(rf"^impl Model for {name.text} \{{\n(.*?)^\}}", self.text, re.DOTALL | re.MULTILINE)
+        if not model or "ghost inverse_ok = " not in model[1]:
+            self.refuse(name.at, f"`{name.text}` has no Model with an inverse, so two of its values may have one number")
+        self.put_in(end - 1, ", PartialEq", "equality")
+
+    def take_equalities(self):
+        """Equality by numbers, in place of which Rust derives that of fields. Its contract goes to the `impl` of Eq."""
+        for place, token in enumerate(self.code):
+            if not self.has(place, "impl PartialEq for") or self.code[place + 3].text not in BY_FIELDS:
+                continue
+            name, members = self.code[place + 3].text, self.members(place)
+            stated = [re.fullmatch(r"ghost eq = \{ (\S+) \};", member.text) for member in members]
+            if len(stated) != 1 or not stated[0] or stated[0][1] not in OF_NUMBERS:
+                self.refuse(token.at, f"equality of `{name}` is not that of its numbers")
+            self.equalities[name] = members
+            self.take_out(place, self.closes[place + 4], "impl PartialEq")
 
     def take_models(self):
         for place, token in enumerate(self.code):
@@ -307,6 +338,8 @@ class Source:
                 self.put_std(place, shim)
             elif token.text in self.libraries and is_path and not follows:
                 self.put_in(place, f"crate::{MODULE}::", "crate")
+            elif self.has(place, "str : : from_utf8") and not follows:
+                self.put_in(place, "core::", "str")
 
     def put_std(self, place, shim):
         """A path of std: a module of core, or that of the allocator, whose names the module `memory` has."""
@@ -559,7 +592,8 @@ class Source:
             self.put_contract(place, self.clauses(place))
         for place, token in enumerate(self.code):
             if token.text in ("impl", "trait", "struct") and not token.reason and self.is_item(place):
-                self.put_contract(place, self.members(place))
+                equality = self.equalities.get(self.code[place + 3].text, []) if self.has(place, "impl Eq for") else []
+                self.put_contract(place, [*equality, *self.members(place)])
 
     def is_item(self, place):
         return self.starts_item(self.start_of_item(place)) or self.code[self.start_of_item(place) - 1].text == "]"
@@ -643,6 +677,7 @@ class Source:
         self.take_ghosts()
         self.take_attributes()
         self.take_models()
+        self.take_equalities()
         self.take_writers()
         self.take_modules()
         self.see_words()

@@ -24,8 +24,13 @@ SHARED_FOLDER = "GATE_FOLDER"
 # What ./test, and then gate/proved_copy, leave in that folder: the first for as long as other work goes on beside.
 BESIDE, PROVED, UNPROVED = "beside", "proved", "unproved"
 
-# The library for C in that folder, once it is proved and built.
+# The library for C in that folder, once it is proved and built; the one of the module that is committed, with nothing proved, or why
+# there is none.
 ARCHIVE = "libmuxandu_c.a"
+UNPROVED_ARCHIVE, NO_UNPROVED_ARCHIVE = "unproved_muxandu_c.a", "no_unproved_archive"
+
+# The variable by which ./test has each step take the one archive, or the other.
+ARCHIVE_CHOICE, UNPROVED_ALWAYS, PROVED_ALWAYS = "GATE_ARCHIVE", "unproved", "proved"
 
 # What `rt ci` has printed so far, in that folder.
 CI_LOG = "rt.log"
@@ -36,20 +41,18 @@ COMPILERS = ("llvm", "rattle")
 # The programs, and the commands that prove, build and run them.
 STARTERS = {"times_bench": ("bench",), "stamps": ("stamps", "check")}
 
-# The crates that gate/proved_copy proves also where the proofs of `rt ci` are at hand: those whose contracts `promises` changes, and
-# the library for C, which `rt ci` does not build. Where checks had kept something in the checkout it proves each crate, and says so
-# by this file.
-PROVED_IN_COPY = ("utc_times", "offset_times", "stamp_times", "muxandu_c")
-KEPT = "kept"
+# What gate/proved_copy leaves there at its begin: the names of the crates that it proves though the proofs of `rt ci` are at hand; and
+# another file where it proves each crate, since checks had kept something in the checkout.
+PROVED_IN_COPY, KEPT = "proved_in_copy", "kept"
 
-# The crates of callers. They have no proofs of their own, and nothing for other crates but their tests.
+# The crates of callers. They have no proofs of their own, and nothing for other crates.
 CRATES_OF_CALLERS = ("uses", "pattern_uses")
 
 # How much of what a command printed is shown where it failed.
 SHOWN = 3_000
 
-# How many seconds a step waits for another.
-LONGEST_WAIT = 10_000
+# How many seconds a step waits for another: seven times those of the whole gate on a machine with nothing else to do.
+LONGEST_WAIT = 40_000
 
 # The last line of a step: how many cases passed, failed and were skipped.
 COUNT = re.compile(r"(\d+) passed, (\d+) failed(?:, (\d+) skipped)?")
@@ -60,6 +63,9 @@ FLOORS_HEAD = "# The least cases, passed and skipped, that a step has. Made by g
 
 # Programs say the same on every machine, and `bash` does not complain of a locale that is not installed.
 os.environ["LC_ALL"] = "C.UTF-8"
+
+# How many seconds `rt` gives a test and a program, which take some: its own sixty pass on a machine with much to do.
+os.environ.setdefault("RT_SECONDS", "600")
 
 
 def say_full_disk(kind, error, trace):
@@ -301,9 +307,14 @@ def has_proved(folder, crate):
         return False
 
 
+def proved_in_copy(folder):
+    """The crates that gate/proved_copy proves in any case."""
+    return read_text(os.path.join(folder, PROVED_IN_COPY)).split()
+
+
 def is_proved_in_copy(folder, crate):
     """Whether gate/proved_copy proves that crate, and does not only take its library from `rt ci`."""
-    return crate in PROVED_IN_COPY or os.path.exists(os.path.join(folder, KEPT))
+    return crate in proved_in_copy(folder) or os.path.exists(os.path.join(folder, KEPT))
 
 
 def wait_for(folder, name):
@@ -316,32 +327,22 @@ def wait_for(folder, name):
 
 
 @contextlib.contextmanager
-def proved_copy(is_changed=False):
-    """The path of a copy of the repository whose crates are proved, with what their checks kept: that of the gate, or where
-    it is to be changed a copy of that; or one of its own."""
+def proved_copy(names):
+    """The path of a copy of the repository that may be changed, with what checks kept: of that of the gate, or one in which these
+    crates are proved."""
     shared = os.environ.get(SHARED_FOLDER)
     if shared:
         wait_for(shared, PROVED)
-        if not is_changed:
-            yield os.path.join(shared, "copy")
-            return
     with own_folder() as folder:
         copy = copy_repository(folder, os.path.join(shared, "copy") if shared else REPOSITORY)
-        for crate in crates(copy) if not shared else ():
+        for crate in names if not shared else ():
             prove(copy, crate)
         yield copy
 
 
-def is_test(crate):
-    """Whether a crate has tests alone."""
-    return crate.endswith("_tests")
-
-
 def prove(root, crate, is_built=False):
-    """Proves a crate of that repository, unless it is one of tests, and keeps what the check keeps; a library is built too,
-    unless it is built elsewhere. Ends the step where it is not proved."""
-    if is_test(crate):
-        return
+    """Proves a crate of that repository, and keeps what the check keeps; a library is built too, unless it is built elsewhere. Ends
+    the step where it is not proved."""
     folder = os.path.join(root, "crates", crate)
     is_library = crate not in CRATES_OF_CALLERS and not is_built and not os.path.exists(os.path.join(folder, "src", "main.rt"))
     # a library that was built by its statements alone has kept nothing

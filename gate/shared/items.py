@@ -1,11 +1,10 @@
 """What the libraries have for callers, as it stands in their .rt files: types, constants, functions and methods."""
 
-import os
 import re
 from dataclasses import dataclass
 
 from shared.gate import CRATES_OF_CALLERS
-from shared.sources import crate_of
+from shared.sources import crate_of, is_test
 
 # Functions whose contracts are laws, or say what a constant is: no code calls them.
 FOR_CONTRACTS = ("laws.rt", "constants.rt")
@@ -216,8 +215,7 @@ def exports_of(path, text):
 
 def is_library(path):
     """Whether a file is one of a library, and no test."""
-    crate = crate_of(path)
-    return crate not in NO_LIBRARIES and not crate.endswith("_tests") and os.path.basename(path) != "tests.rt"
+    return crate_of(path) not in NO_LIBRARIES and not is_test(path)
 
 
 def public_items(files):

@@ -30,7 +30,7 @@ PROGRAMS = ("initdb", "pg_ctl", "pg_dump", "pg_upgrade", "postgres", "psql", "pg
 MORE_PROGRAMS = ("pg_restore", "vacuumdb")
 
 # The most seconds that a command takes, and the longest path of a folder, so that a socket below it has a path.
-LONGEST, LONGEST_PATH = 300, 60
+LONGEST, LONGEST_PATH = 1_800, 60
 
 
 def pg_config():
@@ -116,6 +116,7 @@ class Server:
             "PGUSER": "postgres",
             "PGDATABASE": "postgres",
             "PGTZ": "UTC",
+            "PGCTLTIMEOUT": str(LONGEST),
             "HOME": self.folder,
             "PSQLRC": os.devnull,
         }
@@ -154,10 +155,15 @@ class Server:
     def kill(self):
         """Ends the server and each of its processes at once, as a loss of power does."""
         number = self.process()
-        for each in (number, *children(number)):
+        # a process that is stopped starts no other
+        os.kill(number, signal.SIGSTOP)
+        ended = (number, *children(number))
+        for each in ended:
             with contextlib.suppress(ProcessLookupError):
                 os.kill(each, signal.SIGKILL)
-        wait_for_end(number)
+        # the next server does not start while one of them has the memory that they share
+        for each in ended:
+            wait_for_end(each)
         # a process that nobody waits for keeps its number, which the next server would take for one that runs
         os.remove(os.path.join(self.data, "postmaster.pid"))
         os.remove(os.path.join(self.folder, f".s.PGSQL.{self.port}.lock"))
@@ -171,13 +177,13 @@ class Server:
 
 
 class Extension:
-    """The extension, built over a library, in a PostgreSQL of its own."""
+    """The extension, built over a library, in a PostgreSQL of its own. It begins with what is compiled beside the sources, or from nothing."""
 
-    def __init__(self, folder, dist, places):
+    def __init__(self, folder, dist, places, is_built=False):
         self.folder, self.dist = folder, dist
         self.source = os.path.join(folder, "extension")
         self.root = os.path.join(folder, "root")
-        shutil.copytree(SOURCE, self.source, ignore=shutil.ignore_patterns("*.o", "*.so"))
+        shutil.copytree(SOURCE, self.source, ignore=None if is_built else shutil.ignore_patterns("*.o", "*.so"))
         give_away(self.source)
         self.programs = copy_postgres(places, self.root)
         self.servers = []
@@ -223,15 +229,14 @@ def children(number):
 
 def wait_for_end(number):
     """Waits until a process has ended."""
-    end = time.monotonic() + 60
+    end = time.monotonic() + LONGEST
     while time.monotonic() < end:
         try:
-            os.kill(number, 0)
-        except ProcessLookupError:
+            with open(f"/proc/{number}/stat", encoding="utf-8") as file:
+                if file.read().rpartition(")")[2].split()[0] == "Z":
+                    return
+        except (FileNotFoundError, ProcessLookupError):
             return
-        with open(f"/proc/{number}/stat", encoding="utf-8") as file:
-            if file.read().rpartition(")")[2].split()[0] == "Z":
-                return
         time.sleep(0.02)
     raise RuntimeError(f"the process {number} does not end")
 

@@ -80,7 +80,7 @@ KINDS = (
     Kind(
         "nginx and Apache, access",
         '127.0.0.1 - - [10/Oct/2000:13:55:36 -0700] "GET / HTTP/1.0" 200 2326',
-        "clf at after:[",
+        "clf at access",
         (),
         "2000-10-10T20:55:36.000000000Z",
     ),
@@ -159,7 +159,13 @@ KINDS = (
         "2024-02-29T06:30:00.123000000Z",
     ),
     Kind("Squid", "1286536308.779 180 192.168.0.224 TCP_MISS/200 411 GET", "unix at front", (), "2010-10-08T11:11:48.779000000Z"),
-    Kind("auditd", "type=SYSCALL msg=audit(1364481363.243:24287): arch=c000003e", "", (), ""),
+    Kind(
+        "auditd",
+        "type=SYSCALL msg=audit(1364481363.243:24287): arch=c000003e",
+        "unix at after:audit(",
+        (),
+        "2013-03-28T14:36:03.243000000Z",
+    ),
     Kind(
         "HAProxy",
         "Feb  6 12:12:56 localhost haproxy[14389]: 10.0.1.2:33317 [06/Feb/2009:12:12:51.443] fnt bck/srv1",

@@ -4,6 +4,9 @@ import os
 
 from shared.gate import REPOSITORY, read_text
 
+# The endings of files of Rattle: of sources, and of the tests of crates.
+RATTLE = (".rt", ".rs")
+
 
 def texts(*endings):
     """The text of each file below crates/ with one of these endings, by its path from the repository's root."""
@@ -20,6 +23,11 @@ def texts(*endings):
 def crate_of(path):
     """The crate of a file, by its path from the repository's root."""
     return path.split("/")[1]
+
+
+def is_test(path):
+    """Whether a file, by its path from the repository's root, is one of the tests of a crate: beside its sources, or in a program."""
+    return path.split("/")[2:3] == ["tests"] or os.path.basename(path) == "tests.rt"
 
 
 def crates():

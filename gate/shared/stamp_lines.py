@@ -101,16 +101,51 @@ def unix_text(instant):
 BLOCK = 65_536
 
 # What is told of a log whose first lines have no stamp.
-BARE = b"the first lines have no stamp: name the form by --form, and the place by --at\n"
+BARE = b"the first lines have no stamp: name the form by --form, and the place by --place\n"
+
+
+def first_lines(data):
+    """The lines of a log by which it is known: those that end in its first block, and the rest if the log ends there, or if no line
+    with text ends."""
+    *ended, rest = data[:BLOCK].removeprefix(MARK).split(b"\n")
+    return ended, [rest] if len(data) < BLOCK or not any(ended) else []
 
 
 def told_bare(data, find=stamp_of, name=""):
-    """What is told of a log in whose first read a line ends, and no line has a stamp, neither one with a part out of its range.
+    """What is told of a log if a line of its first block ends, and none has a stamp, neither one with a part out of its range.
     `find` has the stamp of a line, and `name` is that of the log."""
-    lines = data[:BLOCK].removeprefix(MARK).split(b"\n")
-    if not any(lines[:-1]) or any(find(line) is not None for line in lines):
+    ended, rest = first_lines(data)
+    if not any(ended) or any(find(line) is not None for line in ended + rest):
         return b""
     return b"stamps: " + (f"{name}: ".encode() if name else b"") + BARE
+
+
+def told_tally(data, find=stamp_of, name=""):
+    """What is told of the lines of a log that have no stamp, and the status: 1 where none has one, or more than half of those with
+    text have none. A line that begins with a blank or a tab continues another. `find` has the stamp of a line."""
+    stamped, bare, continued = 0, [], 0
+    for number, line in enumerate(re.findall(rb"[^\n]*\n|[^\n]+", data), 1):
+        stamp = find((line[len(MARK) :] if number == 1 and line.startswith(MARK) else line).removesuffix(b"\n"))
+        if isinstance(stamp, tuple):
+            stamped += 1
+        elif line[:1] in (b" ", b"\t"):
+            continued += 1
+        elif line.strip(b"\n") not in (b"", b"\r"):
+            bare.append(number)
+    total = stamped + len(bare)
+    if len(bare) > 1:
+        text = f"{len(bare)} of {total} lines have no stamp, the first is line {bare[0]}"
+    elif bare:
+        text = f"1 of {total} lines has no stamp: line {bare[0]}"
+    elif continued and not stamped:
+        text = "no line has a stamp"
+    else:
+        return b"", 0
+    more = (
+        "" if not continued else f", and {continued} lines continue others" if continued > 1 else ", and 1 line continues another"
+    )
+    front = f"stamps: {name}: " if name else "stamps: "
+    return f"{front}{text}{more}\n".encode(), int(len(bare) > stamped or not total)
 
 
 STYLES = {"utc": lambda instant, _: text_at(instant, 0), "at": text_at, "unix": lambda instant, _: unix_text(instant)}
@@ -194,6 +229,15 @@ def gap_of(number, before, instant):
     return label_of(instant, 0) + f" line {number}: {seconds}.{fraction} s after ".encode() + label_of(before, 0) + b"\n"
 
 
+# The most units without lines one after another that have rows, where not all are asked for.
+MOST_EMPTY = 10_000
+
+
+def row_of(start, offset, count):
+    """The row of a unit and the number of its lines; without a unit, what is in place of so many rows of 0."""
+    return b"... %d rows of 0\n" % count if start is None else label_of(start, offset) + b" %d\n" % count
+
+
 def count_of(words, data, is_ended=True, find=stamp_of):
     """What `stamps count` writes for an input, or for the beginning of one, and what it prints on standard error."""
     offset = offset_of(words[3]) if "at" in words else 0
@@ -213,9 +257,11 @@ def count_of(words, data, is_ended=True, find=stamp_of):
             starts.append(start)
     rows = []
     for start, run in groupby(starts):
-        rows += [(empty, 0) for empty in range(rows[-1][0] + unit, start, unit)] if rows else []
+        between = range(rows[-1][0] + unit, start, unit) if rows else ()
+        is_long = len(between) > MOST_EMPTY and "--all" not in words
+        rows += [(None, len(between))] if is_long else [(empty, 0) for empty in between]
         rows.append((start, len(list(run))))
-    return b"".join(label_of(start, offset) + b" %d\n" % count for start, count in (rows if is_ended else rows[:-1])), told
+    return b"".join(row_of(start, offset, count) for start, count in (rows if is_ended else rows[:-1])), told
 
 
 def cut_merge_of(logs, broken):
@@ -240,7 +286,7 @@ def result_of(words, data, find=stamp_of):
     mark = MARK if data.startswith(MARK) else b""
     lines = data[len(mark) :].split(b"\n")
     written = []
-    last = None
+    last = latest = None
     goes_on = word == "until"
     bound = stamp_of(words[1].encode())[0] if word in ("since", "until") else None
     offset = offset_of(words[1]) if word == "at" else 0
@@ -285,8 +331,9 @@ def result_of(words, data, find=stamp_of):
                 continue
             if last is not None and stamp[0] < last and is_strict:
                 return end_by(number, "earlier than the one before")
-            if last is not None and stamp[0] - last > limit:
-                written.append(gap_of(number, last, stamp[0]))
+            if latest is not None and stamp[0] - latest > limit:
+                written.append(gap_of(number, latest, stamp[0]))
+            latest = stamp[0] if latest is None else max(latest, stamp[0])
             last = stamp[0]
         else:
             if is_read:

@@ -14,6 +14,9 @@ RIGHT_FOLDERS = ("right",)
 ONE, MANY = ".edit", ".edits"
 ENDINGS = {"must-fail": ONE, "wrong": MANY, "right": ONE}
 
+# The file of the verdicts of a crate's wrong bodies, which gate/refused writes.
+VERDICTS = os.path.join("wrong", "VERDICTS")
+
 # The line that begins a body in a file of many.
 BEGIN = "# "
 
@@ -93,6 +96,11 @@ def wrong_bodies(folder, names=(), parts=FOLDERS):
     return [wrong for wrong in found if not names or wrong.name in names]
 
 
+def place_of(folder, wrong):
+    """The place of a wrong body in its crate, which is in that folder: its file and its name."""
+    return f"{os.path.relpath(wrong.path, folder).replace(os.sep, '/')}#{wrong.name}"
+
+
 def right_bodies(folder):
     """The right bodies of a crate, which are read as the wrong ones."""
     return wrong_bodies(folder, parts=RIGHT_FOLDERS)
@@ -101,16 +109,17 @@ def right_bodies(folder):
 def unread_files(folder):
     """The files of these folders of a crate that nothing reads, since their names end otherwise."""
     parts = (*FOLDERS, *RIGHT_FOLDERS)
-    return [path for part, path in files_of(folder, parts) if not path.endswith(ENDINGS[part])]
+    verdicts = os.path.join(folder, VERDICTS)
+    return [path for part, path in files_of(folder, parts) if not path.endswith(ENDINGS[part]) and path != verdicts]
 
 
-def put_body(folder, texts, wrong):
-    """Puts a wrong body into the texts of files, or says why it cannot be put there."""
+def put_body(folder, texts, wrong, read=read_text):
+    """Puts a wrong body into the texts of files, or says why it cannot be put there. `read` reads a file that is not among them."""
     changed = dict(texts)
     for file, after, old, new in wrong.changes:
         if file not in changed:
             try:
-                changed[file] = read_text(os.path.join(folder, file))
+                changed[file] = read(os.path.join(folder, file))
             except OSError:
                 return f"there is no file {file}"
         before, mark, text = changed[file].rpartition(after) if after else ("", "", changed[file])
@@ -136,10 +145,10 @@ def function_at(text, place):
     return None
 
 
-def is_in_function(folder, wrong):
+def is_in_function(folder, wrong, read=read_text):
     """Whether each change of a wrong body is within the function that it makes wrong, which no other function then sees."""
     for file, after, old, _ in wrong.changes:
-        text = read_text(os.path.join(folder, file))
+        text = read(os.path.join(folder, file))
         begin = text.find(old, text.find(after) + len(after))
         ends = (begin, begin + len(old) - 1)
         if any(function_at(text, place) != wrong.function.rpartition("::")[2] for place in ends):

@@ -26,6 +26,9 @@ CREATE TYPE exact_duration (
 COMMENT ON TYPE offset_timestamp IS 'an instant to the nanosecond, and the offset of the clocks that showed it';
 COMMENT ON TYPE exact_duration IS 'a duration of seconds and nanoseconds';
 
+-- How many rows lie within bounds
+SELECTIVITIES: offset_timestamp
+
 -- The order of offset_timestamp
 ORDER: offset_timestamp
 C: offset_timestamp_hash(offset_timestamp) RETURNS integer
@@ -82,6 +85,7 @@ C: in_range(offset_timestamp, offset_timestamp, exact_duration, boolean, boolean
 
 -- Indexes
 -- Values that are equal may have two offsets, so no equalimage lets an index keep one of them alone.
+-- No order of two timestamptz belongs to the family: PostgreSQL would plan the queries of others by it.
 CREATE OPERATOR FAMILY offset_timestamp_ops USING btree;
 CREATE OPERATOR CLASS offset_timestamp_ops DEFAULT FOR TYPE offset_timestamp USING btree FAMILY offset_timestamp_ops AS
     OPERATOR 1 <, OPERATOR 2 <=, OPERATOR 3 =, OPERATOR 4 >=, OPERATOR 5 >,
@@ -100,18 +104,26 @@ ALTER OPERATOR FAMILY offset_timestamp_ops USING btree ADD
     OPERATOR 3 = (timestamptz, offset_timestamp),
     OPERATOR 4 >= (timestamptz, offset_timestamp),
     OPERATOR 5 > (timestamptz, offset_timestamp),
-    FUNCTION 1 (timestamptz, offset_timestamp) offset_timestamp_timestamptz_cmp(timestamptz, offset_timestamp),
-    OPERATOR 1 < (timestamptz, timestamptz),
-    OPERATOR 2 <= (timestamptz, timestamptz),
-    OPERATOR 3 = (timestamptz, timestamptz),
-    OPERATOR 4 >= (timestamptz, timestamptz),
-    OPERATOR 5 > (timestamptz, timestamptz),
-    FUNCTION 1 (timestamptz, timestamptz) timestamptz_cmp(timestamptz, timestamptz);
+    FUNCTION 1 (timestamptz, offset_timestamp) offset_timestamp_timestamptz_cmp(timestamptz, offset_timestamp);
 CREATE OPERATOR CLASS exact_duration_ops DEFAULT FOR TYPE exact_duration USING btree AS
     OPERATOR 1 <, OPERATOR 2 <=, OPERATOR 3 =, OPERATOR 4 >=, OPERATOR 5 >,
     FUNCTION 1 exact_duration_cmp(exact_duration, exact_duration);
 HASH: offset_timestamp
+C: offset_timestamp_hash_timestamptz(timestamptz) RETURNS integer
+C: offset_timestamp_hash_timestamptz_extended(timestamptz, bigint) RETURNS bigint
+ALTER OPERATOR FAMILY offset_timestamp_hash_ops USING hash ADD
+    OPERATOR 1 = (offset_timestamp, timestamptz),
+    OPERATOR 1 = (timestamptz, offset_timestamp),
+    OPERATOR 1 = (timestamptz, timestamptz),
+    FUNCTION 1 (timestamptz, timestamptz) offset_timestamp_hash_timestamptz(timestamptz),
+    FUNCTION 2 (timestamptz, timestamptz) offset_timestamp_hash_timestamptz_extended(timestamptz, bigint);
 MINMAX: offset_timestamp
+ALTER OPERATOR FAMILY offset_timestamp_minmax_ops USING brin ADD
+    OPERATOR 1 < (offset_timestamp, timestamptz),
+    OPERATOR 2 <= (offset_timestamp, timestamptz),
+    OPERATOR 3 = (offset_timestamp, timestamptz),
+    OPERATOR 4 >= (offset_timestamp, timestamptz),
+    OPERATOR 5 > (offset_timestamp, timestamptz);
 HASH: exact_duration
 MINMAX: exact_duration
 C: offset_timestamp_subtype_diff(offset_timestamp, offset_timestamp) RETURNS double precision
@@ -121,13 +133,17 @@ CREATE TYPE offset_timestamp_range AS RANGE (SUBTYPE = offset_timestamp, SUBTYPE
 ENDS: offset_timestamp
 ENDS: exact_duration
 CREATE AGGREGATE sum(exact_duration) (
-    SFUNC = exact_duration_plus, STYPE = exact_duration, COMBINEFUNC = exact_duration_plus, PARALLEL = SAFE
+    SFUNC = exact_duration_plus, STYPE = exact_duration, COMBINEFUNC = exact_duration_plus, PARALLEL = SAFE,
+    MSFUNC = exact_duration_plus, MINVFUNC = exact_duration_minus, MSTYPE = exact_duration
 );
 
 -- Casts: an assignment takes a timestamptz, at the offset 0
 C: offset_timestamp(timestamptz) RETURNS offset_timestamp AS offset_timestamp_from_timestamptz
 C: offset_timestamp(timestamptz, integer) RETURNS offset_timestamp AS offset_timestamp_from_timestamptz
-C: offset_timestamp_digits(offset_timestamp, integer) RETURNS offset_timestamp
+CREATE FUNCTION offset_timestamp_digits_support(internal) RETURNS internal
+    LANGUAGE C IMMUTABLE STRICT PARALLEL SAFE AS 'MODULE_PATHNAME', 'offset_timestamp_digits_support';
+CREATE FUNCTION offset_timestamp_digits(offset_timestamp, integer) RETURNS offset_timestamp
+    LANGUAGE C IMMUTABLE STRICT PARALLEL SAFE SUPPORT offset_timestamp_digits_support AS 'MODULE_PATHNAME', 'offset_timestamp_digits';
 C: timestamptz(offset_timestamp) RETURNS timestamptz AS offset_timestamp_to_timestamptz
 C: rounded_down(offset_timestamp) RETURNS timestamptz AS offset_timestamp_rounded_down
 C: exact_duration(interval) RETURNS exact_duration AS exact_duration_from_interval

@@ -4,9 +4,6 @@
 #include "common/hashfn.h"
 #include "utils/sortsupport.h"
 
-/* The bytes of the instant, at the front of a value, with nothing between. */
-enum { INSTANT_BYTES = offsetof(OffsetTimestamp, offset_seconds) };
-
 #define COMPARISON(name, relation)                                                                                     \
     FUNCTION(offset_timestamp_##name) {                                                                                \
         PG_RETURN_BOOL(compare_instants(GET_TIMESTAMP(0), GET_TIMESTAMP(1)) relation 0);                               \

@@ -70,18 +70,22 @@ static MuxanduStatus scale(Decimal number, const Unit *unit, int128 *nanoseconds
     return MUXANDU_OK;
 }
 
-/* Adds the term at a place of the text, and moves the place past it. */
-static MuxanduStatus read_term(const char *text, size_t *at, int128 *sum) {
+/* Adds the term at a place of the text, and moves the place past it. A term without a unit must be
+ * the only one, so neither a date nor a number in groups is a sum of seconds. */
+static MuxanduStatus read_term(const char *text, size_t *at, int128 *sum, bool is_first) {
     size_t start = *at;
     bool is_negative = text[*at] == '-';
     Decimal number = {0, 0};
     const Unit *unit;
     int128 nanoseconds = 0;
+    size_t end;
     MuxanduStatus status;
     if (text[*at] == '-' || text[*at] == '+') (*at)++;
     status = read_number(text, at, &number);
+    end = *at;
     if (status == MUXANDU_OK) status = read_unit(text, at, &unit);
     if (status != MUXANDU_OK) return status;
+    if (*at == end && (!is_first || text[skip_blanks(text, end)] != '\0')) return MUXANDU_REFUSED_SYNTAX;
     status = scale(number, unit, &nanoseconds);
     if (status != MUXANDU_OK) {
         *at = start;
@@ -92,11 +96,11 @@ static MuxanduStatus read_term(const char *text, size_t *at, int128 *sum) {
 }
 
 MuxanduStatus read_duration(const char *text, int128 *nanoseconds, size_t *fault) {
-    size_t at = skip_blanks(text, 0);
+    size_t at = skip_blanks(text, 0), first = at;
     MuxanduStatus status;
     *nanoseconds = 0;
     do {
-        status = read_term(text, &at, nanoseconds);
+        status = read_term(text, &at, nanoseconds, at == first);
         *fault = at;
         at = skip_blanks(text, at);
     } while (status == MUXANDU_OK && text[at] != '\0');

@@ -1,6 +1,7 @@
 /* offset_timestamp and timestamptz: casts both ways, and the order of the two. */
 #include "values.h"
 
+#include "common/hashfn.h"
 #include "utils/timestamp.h"
 
 /* An infinity is out of range. */
@@ -31,6 +32,28 @@ FUNCTION(offset_timestamp_to_timestamptz) {
 
 FUNCTION(offset_timestamp_rounded_down) {
     PG_RETURN_TIMESTAMPTZ(round_down(GET_TIMESTAMP(0)));
+}
+
+/* The instant of a timestamptz as a value has it at its front, so that equal instants have one
+ * hash. No value has that of an infinity. */
+static OffsetTimestamp at_front(TimestampTz at) {
+    OffsetTimestamp value = {at, UINT32_MAX, 0};
+    if (!TIMESTAMP_NOT_FINITE(at)) {
+        MuxanduTimestamp instant = muxandu_timestamp_from_microseconds_2000(at);
+        value.seconds = instant.seconds;
+        value.nanoseconds = instant.nanoseconds;
+    }
+    return value;
+}
+
+FUNCTION(offset_timestamp_hash_timestamptz) {
+    OffsetTimestamp value = at_front(PG_GETARG_TIMESTAMPTZ(0));
+    return hash_any((const unsigned char *)&value, INSTANT_BYTES);
+}
+
+FUNCTION(offset_timestamp_hash_timestamptz_extended) {
+    OffsetTimestamp value = at_front(PG_GETARG_TIMESTAMPTZ(0));
+    return hash_any_extended((const unsigned char *)&value, INSTANT_BYTES, (uint64)PG_GETARG_INT64(1));
 }
 
 /* -infinity comes before each value, and infinity after each. */

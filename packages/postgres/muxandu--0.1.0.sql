@@ -37,45 +37,63 @@ CREATE TYPE exact_duration (
 COMMENT ON TYPE offset_timestamp IS 'an instant to the nanosecond, and the offset of the clocks that showed it';
 COMMENT ON TYPE exact_duration IS 'a duration of seconds and nanoseconds';
 
+-- How many rows lie within bounds
+CREATE FUNCTION offset_timestamp_ltsel(internal, oid, internal, integer) RETURNS double precision
+    LANGUAGE C STABLE STRICT PARALLEL SAFE AS 'MODULE_PATHNAME', 'offset_timestamp_ltsel';
+CREATE FUNCTION offset_timestamp_ltjoinsel(internal, oid, internal, smallint, internal) RETURNS double precision
+    LANGUAGE C STABLE STRICT PARALLEL SAFE AS 'MODULE_PATHNAME', 'offset_timestamp_ltjoinsel';
+CREATE FUNCTION offset_timestamp_lesel(internal, oid, internal, integer) RETURNS double precision
+    LANGUAGE C STABLE STRICT PARALLEL SAFE AS 'MODULE_PATHNAME', 'offset_timestamp_lesel';
+CREATE FUNCTION offset_timestamp_lejoinsel(internal, oid, internal, smallint, internal) RETURNS double precision
+    LANGUAGE C STABLE STRICT PARALLEL SAFE AS 'MODULE_PATHNAME', 'offset_timestamp_lejoinsel';
+CREATE FUNCTION offset_timestamp_gesel(internal, oid, internal, integer) RETURNS double precision
+    LANGUAGE C STABLE STRICT PARALLEL SAFE AS 'MODULE_PATHNAME', 'offset_timestamp_gesel';
+CREATE FUNCTION offset_timestamp_gejoinsel(internal, oid, internal, smallint, internal) RETURNS double precision
+    LANGUAGE C STABLE STRICT PARALLEL SAFE AS 'MODULE_PATHNAME', 'offset_timestamp_gejoinsel';
+CREATE FUNCTION offset_timestamp_gtsel(internal, oid, internal, integer) RETURNS double precision
+    LANGUAGE C STABLE STRICT PARALLEL SAFE AS 'MODULE_PATHNAME', 'offset_timestamp_gtsel';
+CREATE FUNCTION offset_timestamp_gtjoinsel(internal, oid, internal, smallint, internal) RETURNS double precision
+    LANGUAGE C STABLE STRICT PARALLEL SAFE AS 'MODULE_PATHNAME', 'offset_timestamp_gtjoinsel';
+
 -- The order of offset_timestamp
 CREATE FUNCTION offset_timestamp_lt(offset_timestamp, offset_timestamp) RETURNS boolean
-    LANGUAGE C IMMUTABLE STRICT PARALLEL SAFE AS 'MODULE_PATHNAME', 'offset_timestamp_lt';
+    LANGUAGE C IMMUTABLE STRICT LEAKPROOF PARALLEL SAFE AS 'MODULE_PATHNAME', 'offset_timestamp_lt';
 CREATE OPERATOR < (
     LEFTARG = offset_timestamp, RIGHTARG = offset_timestamp, FUNCTION = offset_timestamp_lt, COMMUTATOR = >, NEGATOR = >=,
-    RESTRICT = scalarltsel, JOIN = scalarltjoinsel
+    RESTRICT = offset_timestamp_ltsel, JOIN = offset_timestamp_ltjoinsel
 );
 CREATE FUNCTION offset_timestamp_le(offset_timestamp, offset_timestamp) RETURNS boolean
-    LANGUAGE C IMMUTABLE STRICT PARALLEL SAFE AS 'MODULE_PATHNAME', 'offset_timestamp_le';
+    LANGUAGE C IMMUTABLE STRICT LEAKPROOF PARALLEL SAFE AS 'MODULE_PATHNAME', 'offset_timestamp_le';
 CREATE OPERATOR <= (
     LEFTARG = offset_timestamp, RIGHTARG = offset_timestamp, FUNCTION = offset_timestamp_le, COMMUTATOR = >=, NEGATOR = >,
-    RESTRICT = scalarlesel, JOIN = scalarlejoinsel
+    RESTRICT = offset_timestamp_lesel, JOIN = offset_timestamp_lejoinsel
 );
 CREATE FUNCTION offset_timestamp_eq(offset_timestamp, offset_timestamp) RETURNS boolean
-    LANGUAGE C IMMUTABLE STRICT PARALLEL SAFE AS 'MODULE_PATHNAME', 'offset_timestamp_eq';
+    LANGUAGE C IMMUTABLE STRICT LEAKPROOF PARALLEL SAFE AS 'MODULE_PATHNAME', 'offset_timestamp_eq';
 CREATE OPERATOR = (
     LEFTARG = offset_timestamp, RIGHTARG = offset_timestamp, FUNCTION = offset_timestamp_eq, COMMUTATOR = =, NEGATOR = <>,
     RESTRICT = eqsel, JOIN = eqjoinsel, HASHES, MERGES
 );
 CREATE FUNCTION offset_timestamp_ne(offset_timestamp, offset_timestamp) RETURNS boolean
-    LANGUAGE C IMMUTABLE STRICT PARALLEL SAFE AS 'MODULE_PATHNAME', 'offset_timestamp_ne';
+    LANGUAGE C IMMUTABLE STRICT LEAKPROOF PARALLEL SAFE AS 'MODULE_PATHNAME', 'offset_timestamp_ne';
 CREATE OPERATOR <> (
     LEFTARG = offset_timestamp, RIGHTARG = offset_timestamp, FUNCTION = offset_timestamp_ne, COMMUTATOR = <>, NEGATOR = =,
     RESTRICT = neqsel, JOIN = neqjoinsel
 );
 CREATE FUNCTION offset_timestamp_ge(offset_timestamp, offset_timestamp) RETURNS boolean
-    LANGUAGE C IMMUTABLE STRICT PARALLEL SAFE AS 'MODULE_PATHNAME', 'offset_timestamp_ge';
+    LANGUAGE C IMMUTABLE STRICT LEAKPROOF PARALLEL SAFE AS 'MODULE_PATHNAME', 'offset_timestamp_ge';
 CREATE OPERATOR >= (
     LEFTARG = offset_timestamp, RIGHTARG = offset_timestamp, FUNCTION = offset_timestamp_ge, COMMUTATOR = <=, NEGATOR = <,
-    RESTRICT = scalargesel, JOIN = scalargejoinsel
+    RESTRICT = offset_timestamp_gesel, JOIN = offset_timestamp_gejoinsel
 );
 CREATE FUNCTION offset_timestamp_gt(offset_timestamp, offset_timestamp) RETURNS boolean
-    LANGUAGE C IMMUTABLE STRICT PARALLEL SAFE AS 'MODULE_PATHNAME', 'offset_timestamp_gt';
+    LANGUAGE C IMMUTABLE STRICT LEAKPROOF PARALLEL SAFE AS 'MODULE_PATHNAME', 'offset_timestamp_gt';
 CREATE OPERATOR > (
     LEFTARG = offset_timestamp, RIGHTARG = offset_timestamp, FUNCTION = offset_timestamp_gt, COMMUTATOR = <, NEGATOR = <=,
-    RESTRICT = scalargtsel, JOIN = scalargtjoinsel
+    RESTRICT = offset_timestamp_gtsel, JOIN = offset_timestamp_gtjoinsel
 );
 CREATE FUNCTION offset_timestamp_cmp(offset_timestamp, offset_timestamp) RETURNS integer
-    LANGUAGE C IMMUTABLE STRICT PARALLEL SAFE AS 'MODULE_PATHNAME', 'offset_timestamp_cmp';
+    LANGUAGE C IMMUTABLE STRICT LEAKPROOF PARALLEL SAFE AS 'MODULE_PATHNAME', 'offset_timestamp_cmp';
 CREATE FUNCTION offset_timestamp_hash(offset_timestamp) RETURNS integer
     LANGUAGE C IMMUTABLE STRICT PARALLEL SAFE AS 'MODULE_PATHNAME', 'offset_timestamp_hash';
 CREATE FUNCTION offset_timestamp_hash_extended(offset_timestamp, bigint) RETURNS bigint
@@ -95,43 +113,43 @@ CREATE OPERATOR === (
 
 -- The order of exact_duration
 CREATE FUNCTION exact_duration_lt(exact_duration, exact_duration) RETURNS boolean
-    LANGUAGE C IMMUTABLE STRICT PARALLEL SAFE AS 'MODULE_PATHNAME', 'exact_duration_lt';
+    LANGUAGE C IMMUTABLE STRICT LEAKPROOF PARALLEL SAFE AS 'MODULE_PATHNAME', 'exact_duration_lt';
 CREATE OPERATOR < (
     LEFTARG = exact_duration, RIGHTARG = exact_duration, FUNCTION = exact_duration_lt, COMMUTATOR = >, NEGATOR = >=,
-    RESTRICT = scalarltsel, JOIN = scalarltjoinsel
+    RESTRICT = offset_timestamp_ltsel, JOIN = offset_timestamp_ltjoinsel
 );
 CREATE FUNCTION exact_duration_le(exact_duration, exact_duration) RETURNS boolean
-    LANGUAGE C IMMUTABLE STRICT PARALLEL SAFE AS 'MODULE_PATHNAME', 'exact_duration_le';
+    LANGUAGE C IMMUTABLE STRICT LEAKPROOF PARALLEL SAFE AS 'MODULE_PATHNAME', 'exact_duration_le';
 CREATE OPERATOR <= (
     LEFTARG = exact_duration, RIGHTARG = exact_duration, FUNCTION = exact_duration_le, COMMUTATOR = >=, NEGATOR = >,
-    RESTRICT = scalarlesel, JOIN = scalarlejoinsel
+    RESTRICT = offset_timestamp_lesel, JOIN = offset_timestamp_lejoinsel
 );
 CREATE FUNCTION exact_duration_eq(exact_duration, exact_duration) RETURNS boolean
-    LANGUAGE C IMMUTABLE STRICT PARALLEL SAFE AS 'MODULE_PATHNAME', 'exact_duration_eq';
+    LANGUAGE C IMMUTABLE STRICT LEAKPROOF PARALLEL SAFE AS 'MODULE_PATHNAME', 'exact_duration_eq';
 CREATE OPERATOR = (
     LEFTARG = exact_duration, RIGHTARG = exact_duration, FUNCTION = exact_duration_eq, COMMUTATOR = =, NEGATOR = <>,
     RESTRICT = eqsel, JOIN = eqjoinsel, HASHES, MERGES
 );
 CREATE FUNCTION exact_duration_ne(exact_duration, exact_duration) RETURNS boolean
-    LANGUAGE C IMMUTABLE STRICT PARALLEL SAFE AS 'MODULE_PATHNAME', 'exact_duration_ne';
+    LANGUAGE C IMMUTABLE STRICT LEAKPROOF PARALLEL SAFE AS 'MODULE_PATHNAME', 'exact_duration_ne';
 CREATE OPERATOR <> (
     LEFTARG = exact_duration, RIGHTARG = exact_duration, FUNCTION = exact_duration_ne, COMMUTATOR = <>, NEGATOR = =,
     RESTRICT = neqsel, JOIN = neqjoinsel
 );
 CREATE FUNCTION exact_duration_ge(exact_duration, exact_duration) RETURNS boolean
-    LANGUAGE C IMMUTABLE STRICT PARALLEL SAFE AS 'MODULE_PATHNAME', 'exact_duration_ge';
+    LANGUAGE C IMMUTABLE STRICT LEAKPROOF PARALLEL SAFE AS 'MODULE_PATHNAME', 'exact_duration_ge';
 CREATE OPERATOR >= (
     LEFTARG = exact_duration, RIGHTARG = exact_duration, FUNCTION = exact_duration_ge, COMMUTATOR = <=, NEGATOR = <,
-    RESTRICT = scalargesel, JOIN = scalargejoinsel
+    RESTRICT = offset_timestamp_gesel, JOIN = offset_timestamp_gejoinsel
 );
 CREATE FUNCTION exact_duration_gt(exact_duration, exact_duration) RETURNS boolean
-    LANGUAGE C IMMUTABLE STRICT PARALLEL SAFE AS 'MODULE_PATHNAME', 'exact_duration_gt';
+    LANGUAGE C IMMUTABLE STRICT LEAKPROOF PARALLEL SAFE AS 'MODULE_PATHNAME', 'exact_duration_gt';
 CREATE OPERATOR > (
     LEFTARG = exact_duration, RIGHTARG = exact_duration, FUNCTION = exact_duration_gt, COMMUTATOR = <, NEGATOR = <=,
-    RESTRICT = scalargtsel, JOIN = scalargtjoinsel
+    RESTRICT = offset_timestamp_gtsel, JOIN = offset_timestamp_gtjoinsel
 );
 CREATE FUNCTION exact_duration_cmp(exact_duration, exact_duration) RETURNS integer
-    LANGUAGE C IMMUTABLE STRICT PARALLEL SAFE AS 'MODULE_PATHNAME', 'exact_duration_cmp';
+    LANGUAGE C IMMUTABLE STRICT LEAKPROOF PARALLEL SAFE AS 'MODULE_PATHNAME', 'exact_duration_cmp';
 CREATE FUNCTION exact_duration_hash(exact_duration) RETURNS integer
     LANGUAGE C IMMUTABLE STRICT PARALLEL SAFE AS 'MODULE_PATHNAME', 'exact_duration_hash';
 CREATE FUNCTION exact_duration_hash_extended(exact_duration, bigint) RETURNS bigint
@@ -143,81 +161,81 @@ CREATE FUNCTION exact_duration_smaller(exact_duration, exact_duration) RETURNS e
 
 -- The order of offset_timestamp and timestamptz
 CREATE FUNCTION offset_timestamp_lt_timestamptz(offset_timestamp, timestamptz) RETURNS boolean
-    LANGUAGE C IMMUTABLE STRICT PARALLEL SAFE AS 'MODULE_PATHNAME', 'offset_timestamp_lt_timestamptz';
+    LANGUAGE C IMMUTABLE STRICT LEAKPROOF PARALLEL SAFE AS 'MODULE_PATHNAME', 'offset_timestamp_lt_timestamptz';
 CREATE OPERATOR < (
     LEFTARG = offset_timestamp, RIGHTARG = timestamptz, FUNCTION = offset_timestamp_lt_timestamptz, COMMUTATOR = >, NEGATOR = >=,
-    RESTRICT = scalarltsel, JOIN = scalarltjoinsel
+    RESTRICT = offset_timestamp_ltsel, JOIN = offset_timestamp_ltjoinsel
 );
 CREATE FUNCTION offset_timestamp_timestamptz_lt(timestamptz, offset_timestamp) RETURNS boolean
-    LANGUAGE C IMMUTABLE STRICT PARALLEL SAFE AS 'MODULE_PATHNAME', 'offset_timestamp_timestamptz_lt';
+    LANGUAGE C IMMUTABLE STRICT LEAKPROOF PARALLEL SAFE AS 'MODULE_PATHNAME', 'offset_timestamp_timestamptz_lt';
 CREATE OPERATOR < (
     LEFTARG = timestamptz, RIGHTARG = offset_timestamp, FUNCTION = offset_timestamp_timestamptz_lt, COMMUTATOR = >, NEGATOR = >=,
-    RESTRICT = scalarltsel, JOIN = scalarltjoinsel
+    RESTRICT = offset_timestamp_ltsel, JOIN = offset_timestamp_ltjoinsel
 );
 CREATE FUNCTION offset_timestamp_le_timestamptz(offset_timestamp, timestamptz) RETURNS boolean
-    LANGUAGE C IMMUTABLE STRICT PARALLEL SAFE AS 'MODULE_PATHNAME', 'offset_timestamp_le_timestamptz';
+    LANGUAGE C IMMUTABLE STRICT LEAKPROOF PARALLEL SAFE AS 'MODULE_PATHNAME', 'offset_timestamp_le_timestamptz';
 CREATE OPERATOR <= (
     LEFTARG = offset_timestamp, RIGHTARG = timestamptz, FUNCTION = offset_timestamp_le_timestamptz, COMMUTATOR = >=, NEGATOR = >,
-    RESTRICT = scalarlesel, JOIN = scalarlejoinsel
+    RESTRICT = offset_timestamp_lesel, JOIN = offset_timestamp_lejoinsel
 );
 CREATE FUNCTION offset_timestamp_timestamptz_le(timestamptz, offset_timestamp) RETURNS boolean
-    LANGUAGE C IMMUTABLE STRICT PARALLEL SAFE AS 'MODULE_PATHNAME', 'offset_timestamp_timestamptz_le';
+    LANGUAGE C IMMUTABLE STRICT LEAKPROOF PARALLEL SAFE AS 'MODULE_PATHNAME', 'offset_timestamp_timestamptz_le';
 CREATE OPERATOR <= (
     LEFTARG = timestamptz, RIGHTARG = offset_timestamp, FUNCTION = offset_timestamp_timestamptz_le, COMMUTATOR = >=, NEGATOR = >,
-    RESTRICT = scalarlesel, JOIN = scalarlejoinsel
+    RESTRICT = offset_timestamp_lesel, JOIN = offset_timestamp_lejoinsel
 );
 CREATE FUNCTION offset_timestamp_eq_timestamptz(offset_timestamp, timestamptz) RETURNS boolean
-    LANGUAGE C IMMUTABLE STRICT PARALLEL SAFE AS 'MODULE_PATHNAME', 'offset_timestamp_eq_timestamptz';
+    LANGUAGE C IMMUTABLE STRICT LEAKPROOF PARALLEL SAFE AS 'MODULE_PATHNAME', 'offset_timestamp_eq_timestamptz';
 CREATE OPERATOR = (
     LEFTARG = offset_timestamp, RIGHTARG = timestamptz, FUNCTION = offset_timestamp_eq_timestamptz, COMMUTATOR = =, NEGATOR = <>,
-    RESTRICT = eqsel, JOIN = eqjoinsel, MERGES
+    RESTRICT = eqsel, JOIN = eqjoinsel, HASHES
 );
 CREATE FUNCTION offset_timestamp_timestamptz_eq(timestamptz, offset_timestamp) RETURNS boolean
-    LANGUAGE C IMMUTABLE STRICT PARALLEL SAFE AS 'MODULE_PATHNAME', 'offset_timestamp_timestamptz_eq';
+    LANGUAGE C IMMUTABLE STRICT LEAKPROOF PARALLEL SAFE AS 'MODULE_PATHNAME', 'offset_timestamp_timestamptz_eq';
 CREATE OPERATOR = (
     LEFTARG = timestamptz, RIGHTARG = offset_timestamp, FUNCTION = offset_timestamp_timestamptz_eq, COMMUTATOR = =, NEGATOR = <>,
-    RESTRICT = eqsel, JOIN = eqjoinsel, MERGES
+    RESTRICT = eqsel, JOIN = eqjoinsel, HASHES
 );
 CREATE FUNCTION offset_timestamp_ne_timestamptz(offset_timestamp, timestamptz) RETURNS boolean
-    LANGUAGE C IMMUTABLE STRICT PARALLEL SAFE AS 'MODULE_PATHNAME', 'offset_timestamp_ne_timestamptz';
+    LANGUAGE C IMMUTABLE STRICT LEAKPROOF PARALLEL SAFE AS 'MODULE_PATHNAME', 'offset_timestamp_ne_timestamptz';
 CREATE OPERATOR <> (
     LEFTARG = offset_timestamp, RIGHTARG = timestamptz, FUNCTION = offset_timestamp_ne_timestamptz, COMMUTATOR = <>, NEGATOR = =,
     RESTRICT = neqsel, JOIN = neqjoinsel
 );
 CREATE FUNCTION offset_timestamp_timestamptz_ne(timestamptz, offset_timestamp) RETURNS boolean
-    LANGUAGE C IMMUTABLE STRICT PARALLEL SAFE AS 'MODULE_PATHNAME', 'offset_timestamp_timestamptz_ne';
+    LANGUAGE C IMMUTABLE STRICT LEAKPROOF PARALLEL SAFE AS 'MODULE_PATHNAME', 'offset_timestamp_timestamptz_ne';
 CREATE OPERATOR <> (
     LEFTARG = timestamptz, RIGHTARG = offset_timestamp, FUNCTION = offset_timestamp_timestamptz_ne, COMMUTATOR = <>, NEGATOR = =,
     RESTRICT = neqsel, JOIN = neqjoinsel
 );
 CREATE FUNCTION offset_timestamp_ge_timestamptz(offset_timestamp, timestamptz) RETURNS boolean
-    LANGUAGE C IMMUTABLE STRICT PARALLEL SAFE AS 'MODULE_PATHNAME', 'offset_timestamp_ge_timestamptz';
+    LANGUAGE C IMMUTABLE STRICT LEAKPROOF PARALLEL SAFE AS 'MODULE_PATHNAME', 'offset_timestamp_ge_timestamptz';
 CREATE OPERATOR >= (
     LEFTARG = offset_timestamp, RIGHTARG = timestamptz, FUNCTION = offset_timestamp_ge_timestamptz, COMMUTATOR = <=, NEGATOR = <,
-    RESTRICT = scalargesel, JOIN = scalargejoinsel
+    RESTRICT = offset_timestamp_gesel, JOIN = offset_timestamp_gejoinsel
 );
 CREATE FUNCTION offset_timestamp_timestamptz_ge(timestamptz, offset_timestamp) RETURNS boolean
-    LANGUAGE C IMMUTABLE STRICT PARALLEL SAFE AS 'MODULE_PATHNAME', 'offset_timestamp_timestamptz_ge';
+    LANGUAGE C IMMUTABLE STRICT LEAKPROOF PARALLEL SAFE AS 'MODULE_PATHNAME', 'offset_timestamp_timestamptz_ge';
 CREATE OPERATOR >= (
     LEFTARG = timestamptz, RIGHTARG = offset_timestamp, FUNCTION = offset_timestamp_timestamptz_ge, COMMUTATOR = <=, NEGATOR = <,
-    RESTRICT = scalargesel, JOIN = scalargejoinsel
+    RESTRICT = offset_timestamp_gesel, JOIN = offset_timestamp_gejoinsel
 );
 CREATE FUNCTION offset_timestamp_gt_timestamptz(offset_timestamp, timestamptz) RETURNS boolean
-    LANGUAGE C IMMUTABLE STRICT PARALLEL SAFE AS 'MODULE_PATHNAME', 'offset_timestamp_gt_timestamptz';
+    LANGUAGE C IMMUTABLE STRICT LEAKPROOF PARALLEL SAFE AS 'MODULE_PATHNAME', 'offset_timestamp_gt_timestamptz';
 CREATE OPERATOR > (
     LEFTARG = offset_timestamp, RIGHTARG = timestamptz, FUNCTION = offset_timestamp_gt_timestamptz, COMMUTATOR = <, NEGATOR = <=,
-    RESTRICT = scalargtsel, JOIN = scalargtjoinsel
+    RESTRICT = offset_timestamp_gtsel, JOIN = offset_timestamp_gtjoinsel
 );
 CREATE FUNCTION offset_timestamp_timestamptz_gt(timestamptz, offset_timestamp) RETURNS boolean
-    LANGUAGE C IMMUTABLE STRICT PARALLEL SAFE AS 'MODULE_PATHNAME', 'offset_timestamp_timestamptz_gt';
+    LANGUAGE C IMMUTABLE STRICT LEAKPROOF PARALLEL SAFE AS 'MODULE_PATHNAME', 'offset_timestamp_timestamptz_gt';
 CREATE OPERATOR > (
     LEFTARG = timestamptz, RIGHTARG = offset_timestamp, FUNCTION = offset_timestamp_timestamptz_gt, COMMUTATOR = <, NEGATOR = <=,
-    RESTRICT = scalargtsel, JOIN = scalargtjoinsel
+    RESTRICT = offset_timestamp_gtsel, JOIN = offset_timestamp_gtjoinsel
 );
 CREATE FUNCTION offset_timestamp_cmp_timestamptz(offset_timestamp, timestamptz) RETURNS integer
-    LANGUAGE C IMMUTABLE STRICT PARALLEL SAFE AS 'MODULE_PATHNAME', 'offset_timestamp_cmp_timestamptz';
+    LANGUAGE C IMMUTABLE STRICT LEAKPROOF PARALLEL SAFE AS 'MODULE_PATHNAME', 'offset_timestamp_cmp_timestamptz';
 CREATE FUNCTION offset_timestamp_timestamptz_cmp(timestamptz, offset_timestamp) RETURNS integer
-    LANGUAGE C IMMUTABLE STRICT PARALLEL SAFE AS 'MODULE_PATHNAME', 'offset_timestamp_timestamptz_cmp';
+    LANGUAGE C IMMUTABLE STRICT LEAKPROOF PARALLEL SAFE AS 'MODULE_PATHNAME', 'offset_timestamp_timestamptz_cmp';
 
 -- Sums and differences
 CREATE FUNCTION offset_timestamp_plus(offset_timestamp, exact_duration) RETURNS offset_timestamp
@@ -261,6 +279,7 @@ CREATE FUNCTION in_range(offset_timestamp, offset_timestamp, exact_duration, boo
 
 -- Indexes
 -- Values that are equal may have two offsets, so no equalimage lets an index keep one of them alone.
+-- No order of two timestamptz belongs to the family: PostgreSQL would plan the queries of others by it.
 CREATE OPERATOR FAMILY offset_timestamp_ops USING btree;
 CREATE OPERATOR CLASS offset_timestamp_ops DEFAULT FOR TYPE offset_timestamp USING btree FAMILY offset_timestamp_ops AS
     OPERATOR 1 <, OPERATOR 2 <=, OPERATOR 3 =, OPERATOR 4 >=, OPERATOR 5 >,
@@ -279,13 +298,7 @@ ALTER OPERATOR FAMILY offset_timestamp_ops USING btree ADD
     OPERATOR 3 = (timestamptz, offset_timestamp),
     OPERATOR 4 >= (timestamptz, offset_timestamp),
     OPERATOR 5 > (timestamptz, offset_timestamp),
-    FUNCTION 1 (timestamptz, offset_timestamp) offset_timestamp_timestamptz_cmp(timestamptz, offset_timestamp),
-    OPERATOR 1 < (timestamptz, timestamptz),
-    OPERATOR 2 <= (timestamptz, timestamptz),
-    OPERATOR 3 = (timestamptz, timestamptz),
-    OPERATOR 4 >= (timestamptz, timestamptz),
-    OPERATOR 5 > (timestamptz, timestamptz),
-    FUNCTION 1 (timestamptz, timestamptz) timestamptz_cmp(timestamptz, timestamptz);
+    FUNCTION 1 (timestamptz, offset_timestamp) offset_timestamp_timestamptz_cmp(timestamptz, offset_timestamp);
 CREATE OPERATOR CLASS exact_duration_ops DEFAULT FOR TYPE exact_duration USING btree AS
     OPERATOR 1 <, OPERATOR 2 <=, OPERATOR 3 =, OPERATOR 4 >=, OPERATOR 5 >,
     FUNCTION 1 exact_duration_cmp(exact_duration, exact_duration);
@@ -293,12 +306,28 @@ CREATE OPERATOR CLASS offset_timestamp_hash_ops DEFAULT FOR TYPE offset_timestam
     OPERATOR 1 =,
     FUNCTION 1 offset_timestamp_hash(offset_timestamp),
     FUNCTION 2 offset_timestamp_hash_extended(offset_timestamp, bigint);
+CREATE FUNCTION offset_timestamp_hash_timestamptz(timestamptz) RETURNS integer
+    LANGUAGE C IMMUTABLE STRICT PARALLEL SAFE AS 'MODULE_PATHNAME', 'offset_timestamp_hash_timestamptz';
+CREATE FUNCTION offset_timestamp_hash_timestamptz_extended(timestamptz, bigint) RETURNS bigint
+    LANGUAGE C IMMUTABLE STRICT PARALLEL SAFE AS 'MODULE_PATHNAME', 'offset_timestamp_hash_timestamptz_extended';
+ALTER OPERATOR FAMILY offset_timestamp_hash_ops USING hash ADD
+    OPERATOR 1 = (offset_timestamp, timestamptz),
+    OPERATOR 1 = (timestamptz, offset_timestamp),
+    OPERATOR 1 = (timestamptz, timestamptz),
+    FUNCTION 1 (timestamptz, timestamptz) offset_timestamp_hash_timestamptz(timestamptz),
+    FUNCTION 2 (timestamptz, timestamptz) offset_timestamp_hash_timestamptz_extended(timestamptz, bigint);
 CREATE OPERATOR CLASS offset_timestamp_minmax_ops DEFAULT FOR TYPE offset_timestamp USING brin AS
     OPERATOR 1 <, OPERATOR 2 <=, OPERATOR 3 =, OPERATOR 4 >=, OPERATOR 5 >,
     FUNCTION 1 brin_minmax_opcinfo(internal),
     FUNCTION 2 brin_minmax_add_value(internal, internal, internal, internal),
     FUNCTION 3 brin_minmax_consistent(internal, internal, internal),
     FUNCTION 4 brin_minmax_union(internal, internal, internal);
+ALTER OPERATOR FAMILY offset_timestamp_minmax_ops USING brin ADD
+    OPERATOR 1 < (offset_timestamp, timestamptz),
+    OPERATOR 2 <= (offset_timestamp, timestamptz),
+    OPERATOR 3 = (offset_timestamp, timestamptz),
+    OPERATOR 4 >= (offset_timestamp, timestamptz),
+    OPERATOR 5 > (offset_timestamp, timestamptz);
 CREATE OPERATOR CLASS exact_duration_hash_ops DEFAULT FOR TYPE exact_duration USING hash AS
     OPERATOR 1 =,
     FUNCTION 1 exact_duration_hash(exact_duration),
@@ -327,7 +356,8 @@ CREATE AGGREGATE min(exact_duration) (
     SFUNC = exact_duration_smaller, STYPE = exact_duration, SORTOP = <, COMBINEFUNC = exact_duration_smaller, PARALLEL = SAFE
 );
 CREATE AGGREGATE sum(exact_duration) (
-    SFUNC = exact_duration_plus, STYPE = exact_duration, COMBINEFUNC = exact_duration_plus, PARALLEL = SAFE
+    SFUNC = exact_duration_plus, STYPE = exact_duration, COMBINEFUNC = exact_duration_plus, PARALLEL = SAFE,
+    MSFUNC = exact_duration_plus, MINVFUNC = exact_duration_minus, MSTYPE = exact_duration
 );
 
 -- Casts: an assignment takes a timestamptz, at the offset 0
@@ -335,8 +365,10 @@ CREATE FUNCTION offset_timestamp(timestamptz) RETURNS offset_timestamp
     LANGUAGE C IMMUTABLE STRICT PARALLEL SAFE AS 'MODULE_PATHNAME', 'offset_timestamp_from_timestamptz';
 CREATE FUNCTION offset_timestamp(timestamptz, integer) RETURNS offset_timestamp
     LANGUAGE C IMMUTABLE STRICT PARALLEL SAFE AS 'MODULE_PATHNAME', 'offset_timestamp_from_timestamptz';
+CREATE FUNCTION offset_timestamp_digits_support(internal) RETURNS internal
+    LANGUAGE C IMMUTABLE STRICT PARALLEL SAFE AS 'MODULE_PATHNAME', 'offset_timestamp_digits_support';
 CREATE FUNCTION offset_timestamp_digits(offset_timestamp, integer) RETURNS offset_timestamp
-    LANGUAGE C IMMUTABLE STRICT PARALLEL SAFE AS 'MODULE_PATHNAME', 'offset_timestamp_digits';
+    LANGUAGE C IMMUTABLE STRICT PARALLEL SAFE SUPPORT offset_timestamp_digits_support AS 'MODULE_PATHNAME', 'offset_timestamp_digits';
 CREATE FUNCTION timestamptz(offset_timestamp) RETURNS timestamptz
     LANGUAGE C IMMUTABLE STRICT PARALLEL SAFE AS 'MODULE_PATHNAME', 'offset_timestamp_to_timestamptz';
 CREATE FUNCTION rounded_down(offset_timestamp) RETURNS timestamptz

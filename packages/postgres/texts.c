@@ -3,6 +3,8 @@
 
 #include "catalog/pg_type.h"
 #include "libpq/pqformat.h"
+#include "nodes/nodeFuncs.h"
+#include "nodes/supportnodes.h"
 #include "utils/array.h"
 #include "utils/builtins.h"
 
@@ -84,6 +86,23 @@ FUNCTION(offset_timestamp_digits) {
     OffsetTimestamp *kept = from_parts(instant_of(at), at->offset_seconds);
     keep_digits(kept, PG_GETARG_INT32(1));
     PG_RETURN_POINTER(kept);
+}
+
+/* Leaves out the cast to a column that keeps at least the digits that a value has, so that no
+ * table is written for one. */
+FUNCTION(offset_timestamp_digits_support) {
+    SupportRequestSimplify *request = (SupportRequestSimplify *)PG_GETARG_POINTER(0);
+    Node *value, *digits;
+    int32 before, after;
+    if (!IsA(request, SupportRequestSimplify)) PG_RETURN_POINTER(NULL);
+    value = linitial(request->fcall->args);
+    digits = lsecond(request->fcall->args);
+    if (!IsA(digits, Const) || ((Const *)digits)->constisnull) PG_RETURN_POINTER(NULL);
+    before = exprTypmod(value);
+    after = DatumGetInt32(((Const *)digits)->constvalue);
+    if (after < 0 || after == MOST_DIGITS || (before >= 0 && before <= after))
+        PG_RETURN_POINTER(relabel_to_typmod(value, after));
+    PG_RETURN_POINTER(NULL);
 }
 
 /* The name of the part that makes a text an error, or NULL where there is none. */

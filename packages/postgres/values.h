@@ -25,6 +25,9 @@ typedef struct OffsetTimestamp {
 
 StaticAssertDecl(sizeof(OffsetTimestamp) == 16, "a value of offset_timestamp has 16 bytes");
 
+/* The bytes of the instant, at the front of a value, with nothing between. */
+enum { INSTANT_BYTES = offsetof(OffsetTimestamp, offset_seconds) };
+
 /* A duration, whose parts have one sign. The first 12 bytes are the form on disk: read the
  * parts, and never the whole. */
 typedef struct ExactDuration {

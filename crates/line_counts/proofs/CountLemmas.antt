@@ -22,7 +22,7 @@ then_on-then_on : (text : List ℕ) (end : Result Tally CountFault) (next last :
 then_on-then_on text (Ok tally) next last = then_on-behind text (next tally).text (next tally).end last
 then_on-then_on text (Err fault) next last = refl
 
-then_on-same : (text : List ℕ) (end : Result Tally CountFault) (next other : Tally → Counted) → ((tally : Tally) → next tally ≡ other tally)
+pub then_on-same : (text : List ℕ) (end : Result Tally CountFault) (next other : Tally → Counted) → ((tally : Tally) → next tally ≡ other tally)
     → then_on text end next ≡ then_on text end other
 then_on-same text (Ok tally) next other h = ap (behind text) (h tally)
 then_on-same text (Err fault) next other h = refl

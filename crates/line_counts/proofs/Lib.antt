@@ -1,7 +1,9 @@
 pub mod BlockLemmas
 pub mod CountLemmas
+pub mod EmptyLemmas
 pub mod RowLemmas
 pub mod StandLemmas
+pub mod StepLemmas
 pub mod SumLemmas
 pub mod TakeLemmas
 pub mod TurnLemmas

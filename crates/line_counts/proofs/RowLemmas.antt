@@ -3,8 +3,8 @@ use Rattle.std.proofs.Common.{◌≡◌, ℕ, zero, suc, true, false, List, [], 
 use Rattle.std.specs.Prelude.{int_lt}
 use Rattle.line_devices.specs.Writing.{AppendsBeginning, Sends}
 use Rattle.line_devices.specs.WritingLemmas.{AppendsBeginning-longer, AppendsBeginning-pending, Sends-append, Sends-nothing}
-use Rattle.line_counts.specs.Counting.{Counting}
-use Rattle.line_counts.specs.Counts.{empty_rows, most}
+use Rattle.line_counts.specs.Counting.{Counting, most}
+use Rattle.line_counts.specs.Counts.{empty_rows}
 
 -- no bucket is left
 empty_rows-none : (c : Counting) (n : ℕ) (start to : ℤ) → int_lt start to ≡ false → empty_rows c n start to ≡ []

@@ -3,11 +3,11 @@ use Rattle.std.proofs.Common.{◌≡◌, ℕ, zero, suc, ◌+◌, ◌≤◌, Boo
 use Rattle.std.proofs.Common.{ℤ, refl, ap, ◌∙◌, arith}
 use Rattle.std.proofs.lemmas.Bool.Decides.{nat_tests}
 use Rattle.std.specs.Ordering.{int_eq}
-use Rattle.std.specs.Prelude.{int_lt, ⊤}
+use Rattle.std.specs.Prelude.{int_lt, nat_lt, ⊤}
 use Rattle.line_devices.specs.Lines.{lines_of}
-use Rattle.line_counts.specs.Counting.{Counting}
+use Rattle.line_counts.specs.Counting.{Counting, empty_count, most}
 use Rattle.line_counts.specs.Counts.{Counted, bucket_at, count_end, count_input, count_line, count_lines, instant_at}
-use Rattle.line_counts.specs.Counts.{empty_rows, ended_rows, first_tally, last_row, most}
+use Rattle.line_counts.specs.Counts.{empty_rows, empty_run, ended_rows, first_tally, last_row}
 use Rattle.line_counts.specs.Counts.{one_more, row_after, rows_by, tally_at, tally_by}
 use Rattle.line_counts.specs.Laws.{lines_in, marks, one_if_in, row_marks, with_marks}
 use Rattle.line_counts.specs.declared.tallies.Row.{Row}
@@ -42,6 +42,14 @@ length-empty_rows c bucket zero from to = refl
 length-empty_rows c bucket (suc n) from to =
     empty_if (int_lt from to) (int_eq from bucket) (empty_rows (with_marks c bucket) n (c.next from) to) (length-empty_rows c bucket n (c.next from) to)
 
+no_more : (b : Bool) (rest : List ℕ) → length rest ≡ 0 → length (cond b [] rest) ≡ 0
+no_more true rest e = refl
+no_more false rest e = e
+
+length-empty_run : (c : Counting) (bucket from to : ℤ) → length (empty_run (with_marks c bucket) from to) ≡ 0
+length-empty_run c bucket from to =
+    no_more (nat_lt c.most_empty (empty_count c.next most from to)) (empty_rows (with_marks c bucket) most from to) (length-empty_rows c bucket most from to)
+
 length-last_row : (c : Counting) (bucket : ℤ) (row : Option Row) → length (last_row (with_marks c bucket) row) ≡ lines_of_row bucket row
 length-last_row c bucket None = refl
 length-last_row c bucket (Some row) = marks_if (int_eq row.start bucket) row.count
@@ -63,7 +71,7 @@ counts false n = omega arith
 
 -- a line in the bucket of the row, or in another
 row_grows : (c : Counting) (bucket start : ℤ) (row : Row) (same : Bool) (k : ℕ) → row.count ≤ k → suc k ≤ most → int_eq row.start start ≡ same
-    → length (cond same [] ((with_marks c bucket).row row.start row.count ++ empty_rows (with_marks c bucket) most (c.next row.start) start))
+    → length (cond same [] ((with_marks c bucket).row row.start row.count ++ empty_run (with_marks c bucket) (c.next row.start) start))
     + lines_of_row bucket (Some (cond same (record { start = start; count = one_more row.count }) (record { start = start; count = 1 })))
     ≡ lines_of_row bucket (Some row) + cond (int_eq start bucket) 1 0
 row_grows c bucket start row true k low high e =
@@ -72,8 +80,8 @@ row_grows c bucket start row true k low high e =
     rw (is, more) (counts (int_eq start bucket) row.count)
 row_grows c bucket start row false k low high e =
     let first = marks_if (int_eq row.start bucket) row.count in
-    let rest = length-empty_rows c bucket most (c.next row.start) start in
-    let all = length-append (row_marks bucket row.start row.count) (empty_rows (with_marks c bucket) most (c.next row.start) start) in
+    let rest = length-empty_run c bucket (c.next row.start) start in
+    let all = length-append (row_marks bucket row.start row.count) (empty_run (with_marks c bucket) (c.next row.start) start) in
     omega (arith, all, first, rest)
 
 row_adds : (c : Counting) (bucket : ℤ) (row : Option Row) (start : ℤ) (k : ℕ) → HasAtMost row k → suc k ≤ most

@@ -1,18 +1,15 @@
--- The rows of an input: a run of lines of one bucket has a row, and each bucket without lines before the next one.
-use Rattle.std.specs.Prelude.{ℕ, suc, zero, ◌+◌, ◌-◌, ◌^◌, ◌==◌, Bool, true, false, min, List, [], ◌∷◌, ◌++◌, if◌then◌else◌, ℤ, int_lt, Option}
+-- The rows of an input: a run of lines of one bucket has a row, and so has each bucket without lines before the next one, unless these
+-- are more than have rows. A text with their number is in place of those rows.
+use Rattle.std.specs.Prelude.{ℕ, suc, zero, ◌+◌, ◌==◌, Bool, true, false, min, nat_lt, List, [], ◌∷◌, ◌++◌, if◌then◌else◌, ℤ, int_lt, Option}
 use Rattle.std.specs.Prelude.{Some, None, Result, Ok, Err}
 use Rattle.std.specs.Option.{option_and_then, option_or}
 use Rattle.std.specs.Ordering.{int_eq}
 use Rattle.line_devices.specs.Lines.{lines_of, whole_lines_of}
-use Rattle.line_counts.specs.Counting.{Counting}
+use Rattle.line_counts.specs.Counting.{Counting, empty_count, most}
 use Rattle.line_counts.specs.declared.tallies.CountFault.{CountFault}
 use Rattle.line_counts.specs.declared.tallies.CountFault.TheVariants.{Missing, Back}
 use Rattle.line_counts.specs.declared.tallies.Row.{Row}
 use Rattle.line_counts.specs.declared.tallies.Tally.{Tally}
-
--- the greatest count
-abbrev pub most : ℕ
-most = 2 ^ 64 - 1
 
 -- one more, up to the greatest count
 abbrev pub one_more : ℕ → ℕ
@@ -28,9 +25,17 @@ empty_rows counting zero from to = []
 empty_rows counting (suc more) from to =
     if int_lt from to then counting.row from 0 ++ empty_rows counting more (counting.next from) to else []
 
+-- what is written of a number of buckets without lines, from one on and before another: their rows, or the text in their place
+abbrev pub empty_by : Counting → ℕ → ℤ → ℤ → List ℕ
+empty_by counting count from to = if nat_lt counting.most_empty count then counting.in_place count else empty_rows counting most from to
+
+-- the buckets without lines, from one on and before another
+abbrev pub empty_run : Counting → ℤ → ℤ → List ℕ
+empty_run counting from to = empty_by counting (empty_count counting.next most from to) from to
+
 -- a row, and the buckets without lines between it and a line of another bucket
 abbrev pub rows_to : Counting → Row → ℤ → List ℕ
-rows_to counting row to = counting.row row.start row.count ++ empty_rows counting most (counting.next row.start) to
+rows_to counting row to = counting.row row.start row.count ++ empty_run counting (counting.next row.start) to
 
 -- the rows that a line of a bucket ends: those before its own, unless the row has that bucket
 abbrev pub ended_rows : Counting → Option Row → ℤ → List ℕ

@@ -1,10 +1,10 @@
 -- Laws of counts. A function of `src/laws.rt` proves each of them.
-use Rattle.std.specs.Prelude.{◌≡◌, ℕ, zero, suc, ◌+◌, ◌≤◌, Bool, true, false, List, [], ◌∷◌, length, if◌then◌else◌, ℤ, Option, Some, None}
+use Rattle.std.specs.Prelude.{◌≡◌, ℕ, zero, suc, ◌+◌, ◌≤◌, ◌==◌, Bool, true, false, List, [], ◌∷◌, length, if◌then◌else◌, ℤ, Option, Some, None}
 use Rattle.std.specs.Option.{option_or}
 use Rattle.std.specs.Ordering.{int_eq}
 use Rattle.line_devices.specs.Lines.{lines_of}
-use Rattle.line_counts.specs.Counting.{Counting}
-use Rattle.line_counts.specs.Counts.{bucket_at, count_input, most}
+use Rattle.line_counts.specs.Counting.{Counting, most}
+use Rattle.line_counts.specs.Counts.{bucket_at, count_input}
 
 -- this number of bytes
 unfoldable pub marks : ℕ → List ℕ
@@ -17,7 +17,14 @@ row_marks bucket start count = if int_eq start bucket then marks count else []
 
 -- the same count with such rows: its output has as many bytes as the rows of that bucket have lines together
 abbrev pub with_marks : Counting → ℤ → Counting
-with_marks counting bucket = record { instant = counting.instant; bucket = counting.bucket; next = counting.next; row = row_marks bucket }
+with_marks counting bucket = record {
+  instant = counting.instant;
+  bucket = counting.bucket;
+  next = counting.next;
+  row = row_marks bucket;
+  most_empty = counting.most_empty;
+  in_place = λ count. [];
+}
 
 -- 1 for a line of a bucket, and 0 for another
 abbrev pub one_if_in : ℤ → Option ℤ → ℕ
@@ -36,3 +43,20 @@ abbrev pub CountsAddUp : Type 0
 CountsAddUp =
     (counting : Counting) (bucket : ℤ) (input : List ℕ) → length (lines_of input) ≤ most
     → length (count_input (with_marks counting bucket) false input).text ≡ lines_in counting bucket None true (lines_of input)
+
+-- as many bytes for buckets without lines as there are, where this number of them one after another have rows, and none for others
+abbrev pub with_empty_marks : Counting → ℕ → Counting
+with_empty_marks counting most_empty = record {
+  instant = counting.instant;
+  bucket = counting.bucket;
+  next = counting.next;
+  row = λ start count. marks (if count == 0 then 1 else 0);
+  most_empty = most_empty;
+  in_place = marks;
+}
+
+-- a number in place of rows is that of the buckets without lines there: whatever number of them have rows, they are as many in all
+abbrev pub EmptyRunsAddUp : Type 0
+EmptyRunsAddUp =
+    (counting : Counting) (is_strict : Bool) (most_empty : ℕ) (input : List ℕ)
+    → count_input (with_empty_marks counting most_empty) is_strict input ≡ count_input (with_empty_marks counting most) is_strict input

@@ -2,4 +2,5 @@ pub mod Counting
 pub mod Counts
 pub mod Laws
 pub mod Progress
+pub mod Steps
 pub mod Turns

@@ -2,7 +2,8 @@
 ghost use Rattle.std.specs.Ordering.{int_eq};
 ghost use Rattle.std.specs.Prelude.{◌≡◌, ◌++◌, int_lt, Some};
 ghost use Rattle.line_devices.specs.Writing.{MarksFailure, SendsAll};
-ghost use Rattle.line_counts.specs.Counts.{back_of, bucket_at, count_line, empty_rows, ended_rows, fault_of, first_tally, goes_back, last_row, most};
+ghost use Rattle.line_counts.specs.Counting.{most};
+ghost use Rattle.line_counts.specs.Counts.{back_of, bucket_at, count_line, empty_rows, empty_run, ended_rows, fault_of, first_tally, goes_back, last_row};
 ghost use Rattle.line_counts.specs.Counts.{row_after, rows_by, tally_after, tally_at, tally_by, tally_passed};
 ghost use Rattle.line_counts.specs.Progress.{Takes, mark_after};
 
@@ -282,8 +283,29 @@ fn send_ended<B: Buckets, W: Sink>(
     send_empty(buckets, writer, pending, buckets.next(row.start), start)
 }
 
-// Sends the rows of buckets without lines, from one on and before another.
+// Sends what is written of buckets without lines, from one on and before another: their rows, or a
+// text in place of too many.
 fn send_empty<B: Buckets, W: Sink>(
+    buckets: &B,
+    writer: &mut W,
+    pending: &mut Pending,
+    from: UtcDateTime,
+    to: UtcDateTime,
+) -> Result<(), DeviceFault>
+    ensures sent { SendsAll result (W.written writer.old) (W.written writer.new)
+        pending.new (pending.old ++ empty_run (B.counting buckets.now) from to) }
+    ensures mark { MarksFailure result (W.is_marked writer.old) (W.is_marked writer.new) }
+{
+    let count = buckets.count_between(from, to);
+    if count > buckets.most_empty() {
+        let text = buckets.text_in_place(count);
+        return send(writer, pending, text.as_bytes());
+    }
+    send_empty_rows(buckets, writer, pending, from, to)
+}
+
+// Sends the rows of buckets without lines, from one on and before another.
+fn send_empty_rows<B: Buckets, W: Sink>(
     buckets: &B,
     writer: &mut W,
     pending: &mut Pending,

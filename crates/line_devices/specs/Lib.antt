@@ -4,5 +4,7 @@ pub mod InputLemmas
 pub mod LineLemmas
 pub mod LineParts
 pub mod Lines
+pub mod StampTallies
+pub mod StampTallyLemmas
 pub mod Writing
 pub mod WritingLemmas

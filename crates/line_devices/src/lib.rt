@@ -4,4 +4,5 @@
 pub mod devices;
 pub mod places;
 pub mod sending;
+pub mod stamp_tallies;
 pub mod table;

@@ -1,7 +1,10 @@
 mod ApartLemmas
 mod ChoiceLemmas
 mod FrontLemmas
+mod LeftOutLemmas
+mod PathLemmas
 mod RangeLemmas
 mod ReadBackLemmas
 mod SplitLemmas
+mod YearLemmas
 mod ZoneWordLemmas

@@ -58,18 +58,19 @@ stamp_behind-own items assumed text =
 
 -- a text that the items read to its end
 stamp_in-own : (items : List Item) (assumed : Assumed) (text : List ℕ) (p : Parts) → at_end (front_of items text no_parts) ≡ Ok p
-    → stamp_in (form_of items) assumed (length text) text ≡ ended_stamp assumed p 0 (length text) []
+    → stamp_in (form_of items) assumed (length text) text ≡ ended_stamp assumed p 0 (length text) text
 stamp_in-own items assumed text p reading =
     let none : length text - length text ≡ 0 = omega arith in
     let all : length text - 0 ≡ length text = omega arith in
-    rw (none, front-at_end (front_of items text no_parts) p reading, all, drop_all (length text) text (omega arith)) refl
+    rw (none, front-at_end (front_of items text no_parts) p reading, all) refl
 
 -- a stamp that ends with its line
 ended_stamp-whole : (assumed : Assumed) (p : Parts) (text : List ℕ) (i : ℤ) → length text ≤ 1000 → instant_of_parts assumed p ≡ Ok i
-    → ended_stamp assumed p 0 (length text) [] ≡ Ok (whole_stamp i text)
+    → ended_stamp assumed p 0 (length text) text ≡ Ok (whole_stamp i text)
 unfolding is_apart
 ended_stamp-whole assumed p text i short instant =
-    let fits : nat_lt 1000 (0 + length text) ≡ false = grind (arith, nat_tests) in rw (fits, instant) refl
+    let fits : nat_lt 1000 (0 + length text) ≡ false = grind (arith, nat_tests) in
+    rw (fits, drop_all (length text) text (omega arith), instant) refl
 
 pub stamp_at-whole : (items : List Item) (assumed : Assumed) (text : List ℕ) (p : Parts) (i : ℤ) → at_end (front_of items text no_parts) ≡ Ok p
     → length text ≤ 1000 → instant_of_parts assumed p ≡ Ok i → stamp_at (form_of items) place.Front [] assumed text ≡ Ok (whole_stamp i text)

@@ -183,7 +183,7 @@ counted_in_two form text digits counted split within =
 
 stamp_when : (assumed : Assumed) (start : ℕ) (text rest : List ℕ) (p : Parts) (has : Bool) (front : Front)
     → Some (p, rest) ≡ (if has then if_read front else None)
-    → ended_stamp assumed p start (length text - length rest) (drop (length text - length rest) text)
+    → ended_stamp assumed p start (length text - length rest) text
     ≡ (if has then read_stamp assumed start text (placed text front) else Err Absent)
 stamp_when assumed start text rest p true (Ok (q, more)) is =
     let same : Some (p, rest) ≡ Some (q, more) = is in
@@ -202,7 +202,7 @@ no_stamp_when assumed start text true (Err left) is = refl
 no_stamp_when assumed start text false front is = refl
 
 pub counted_stamp : (form : Form) (assumed : Assumed) (count : ℕ) (text rest : List ℕ) (p : Parts) → Some (p, rest) ≡ counted_reading form text
-    → ended_stamp assumed p (count - length text) (length text - length rest) (drop (length text - length rest) text) ≡ stamp_in form assumed count text
+    → ended_stamp assumed p (count - length text) (length text - length rest) text ≡ stamp_in form assumed count text
 counted_stamp form assumed count text rest p is =
     stamp_when assumed (count - length text) text rest p (has_digits form text) (front_of form.items text no_parts) is
 

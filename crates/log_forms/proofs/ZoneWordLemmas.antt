@@ -1,44 +1,47 @@
--- No word for a zone begins with anything but a letter.
-use Rattle.std.proofs.Common.{◌≡◌, ℕ, ◌==◌, ◌&&◌, Bool, true, false, List, [], ◌∷◌, refl, arith, inl, inr}
+-- Each zone begins with a letter or a sign.
+use Rattle.std.proofs.Common.{◌≡◌, ℕ, ◌==◌, ◌&&◌, Bool, true, false, List, [], ◌∷◌, refl, arith}
+use Rattle.std.specs.Prelude.{◌||◌}
 use Rattle.std.specs.Char.{is_ascii_alphabetic}
 use Rattle.std.specs.List.{list_any}
-use Rattle.std.proofs.lemmas.Bool.{cases_Bool, and_parts}
+use Rattle.std.proofs.lemmas.Bool.{and_parts}
 use Rattle.std.proofs.lemmas.Bool.Decides.{nat_tests}
-use Rattle.log_forms.specs.Ends.{begins_letter, begins_word, is_word_at}
-use Rattle.log_forms.specs.declared.zone_words.TheConstants.{ZONE_WORDS}
+use Rattle.log_forms.specs.Ends.{begins_mark, begins_zone, is_spelled, past_bracket, spells}
+use Rattle.log_forms.specs.Marks.{past_blanks}
+use Rattle.log_forms.specs.declared.zone_words.TheConstants.{ZONES}
 
--- a letter is no byte that is none
-no_letter : (letter byte : ℕ) → is_ascii_alphabetic letter ≡ true → is_ascii_alphabetic byte ≡ false → (byte == letter) ≡ false
-no_letter letter byte is is_not = elim (cases_Bool (byte == letter)) [
-  | inl t ↦ let same : byte ≡ letter = grind (arith, nat_tests, t) in let both = rw (same, is) at is_not in absurd cc
-  | inr f ↦ f
-]
+-- whether a mark is a letter or a sign
+abbrev is_head : ℕ → Bool
+is_head mark = is_ascii_alphabetic mark || (mark == 43)
 
-no_space : (letter : ℕ) → is_ascii_alphabetic letter ≡ true → (letter == 32) ≡ false
-no_space letter is = elim (cases_Bool (letter == 32)) [
-  | inl t ↦ let same : letter ≡ 32 = grind (arith, nat_tests, t) in let both = rw same at is in absurd cc
-  | inr f ↦ f
-]
+-- such a mark spells no other byte
+not_spelled : (mark byte : ℕ) → is_head mark ≡ true → begins_mark (byte ∷ []) ≡ false → is_spelled mark byte ≡ false
+not_spelled mark byte head none = grind (arith, nat_tests, head, none)
 
-not_word : (word text : List ℕ) → begins_letter word ≡ true → begins_letter text ≡ false → is_word_at word text ≡ false
-unfolding is_word_at
-not_word [] text is is_not = absurd cc
-not_word (letter ∷ word) [] is is_not = no_space letter is
-not_word (letter ∷ word) (first ∷ text) is is_not = rw (no_space letter is, no_letter letter first is is_not) refl
+not_row : (mark : ℕ) (row text : List ℕ) → is_head mark ≡ true → begins_mark text ≡ false → spells (mark ∷ row) text ≡ false
+unfolding spells
+not_row mark row [] head none = grind (arith, nat_tests, head)
+not_row mark row (first ∷ text) head none =
+    let no_space : (mark == 32) ≡ false = grind (arith, nat_tests, head) in
+    let no_end : (mark == 33) ≡ false = grind (arith, nat_tests, head) in
+    let no_bar : (mark == 124) ≡ false = grind (arith, nat_tests, head) in
+    rw (no_space, no_end, no_bar, not_spelled mark first head none) refl
 
--- each of these words begins with a letter
-unfoldable begin_letters : List (List ℕ) → Bool
-begin_letters [] = true
-begin_letters (word ∷ words) = begins_letter word && begin_letters words
+-- each row begins with such a mark
+unfoldable heads : List (List ℕ) → Bool
+heads [] = true
+heads ([] ∷ rows) = false
+heads ((mark ∷ row) ∷ rows) = is_head mark && heads rows
 
-no_word_of : (words : List (List ℕ)) (text : List ℕ) → begin_letters words ≡ true → begins_letter text ≡ false
-    → list_any (λ word. is_word_at word text) words ≡ false
-unfolding begin_letters
-no_word_of [] text is is_not = refl
-no_word_of (word ∷ words) text is is_not =
-    let parts = and_parts _ _ is in rw (not_word word text parts.0 is_not, no_word_of words text parts.1 is_not) refl
+no_row_of : (rows : List (List ℕ)) (text : List ℕ) → heads rows ≡ true → begins_mark text ≡ false
+    → list_any (λ row. spells row text) rows ≡ false
+unfolding heads
+no_row_of [] text all none = refl
+no_row_of ([] ∷ rows) text all none = absurd cc
+no_row_of ((mark ∷ row) ∷ rows) text all none =
+    let parts = and_parts (is_head mark) (heads rows) all in
+    rw (not_row mark row text parts.0 none, no_row_of rows text parts.1 none) refl
 
--- a text that begins with no letter begins with no such word
-pub no_word : (text : List ℕ) → begins_letter text ≡ false → begins_word text ≡ false
-unfolding begin_letters
-no_word text is_not = no_word_of ZONE_WORDS text refl is_not
+-- a text that begins with another byte begins with no zone
+pub no_zone : (text : List ℕ) → begins_mark (past_bracket (past_blanks text)) ≡ false → begins_zone text ≡ false
+unfolding heads
+no_zone text none = no_row_of ZONES (past_bracket (past_blanks text)) refl none

@@ -1,15 +1,17 @@
 -- The text at a place is the end of its line.
-use Rattle.std.proofs.Common.{◌≡◌, ℕ, ◌+◌, ◌-◌, ◌==◌, Bool, true, false, List, [], ◌∷◌, drop, refl, ap, ◌∙◌}
-use Rattle.std.specs.Prelude.{Option, Some, None, if◌then◌else◌, ⊤}
+use Rattle.std.proofs.Common.{◌≡◌, ℕ, zero, suc, ◌+◌, ◌-◌, ◌==◌, Bool, true, false, List, [], ◌∷◌, drop, take, refl, ap, ◌∙◌}
+use Rattle.std.specs.Prelude.{◌&&◌, ◌||◌, Option, Some, None, if◌then◌else◌, ⊤}
+use Rattle.std.specs.Char.{is_ascii_digit}
 use Rattle.std.proofs.lemmas.List.{drop-drop}
 use Rattle.rfc3339.specs.Reading.{◌>>=◌, mark_at}
-use Rattle.log_forms.specs.Json.{depth_after, member_at, named_value, state_inside, value_of, value_text, without_quote}
+use Rattle.log_forms.specs.Json.{before_point, depth_after, has_ended, member_at, named_value, path_of, state_inside, value_of, value_text}
+use Rattle.log_forms.specs.Json.{without_quote}
 use Rattle.log_forms.specs.Marks.{bytes_at, first_of, is_blank, past_blanks}
-use Rattle.log_forms.specs.Places.{behind_text, field_at, text_at}
+use Rattle.log_forms.specs.Places.{behind_text, colour_end, field_at, last_bracket, past_colour, past_colours, text_at}
 use Rattle.log_forms.specs.declared.json.JsonState.{JsonState}
 use Rattle.log_forms.specs.declared.json.JsonState.TheVariants.{Outside, Inside, Escaped}
 use Rattle.log_forms.specs.declared.places.Place.{Place}
-use Rattle.log_forms.specs.declared.places.Place.TheVariants.{Front, Field, After, Json}
+use Rattle.log_forms.specs.declared.places.Place.TheVariants.{Front, Field, After, Json, Access, Coloured}
 
 -- a text is another one without this number of bytes in front
 pub record IsEnd (text rest : List ℕ) : Type 0 where
@@ -104,20 +106,39 @@ member_at-end : (name : List ℕ) (depth : ℕ) (text : List ℕ) → EndIf text
 unfolding member_at
 member_at-end name depth text = end_choice (depth == 1) text (named_value name text) None (named_value-end name text) tt
 
-value_of-end : (name : List ℕ) (state : JsonState) (depth : ℕ) (line : List ℕ) → EndIf line (value_of name state depth line)
+value_of-end : (is_inner : Bool) (name : List ℕ) (state : JsonState) (depth : ℕ) (line : List ℕ)
+    → EndIf line (value_of is_inner name state depth line)
 unfolding value_of
-value_of-end name Outside depth [] = tt
-value_of-end name Inside depth [] = tt
-value_of-end name Escaped depth [] = tt
-value_of-end name Escaped depth (byte ∷ line) = end_more byte line (value_of name Inside depth line) (value_of-end name Inside depth line)
-value_of-end name Inside depth (byte ∷ line) =
-    end_more byte line (value_of name (state_inside byte) depth line) (value_of-end name (state_inside byte) depth line)
-value_of-end name Outside depth (byte ∷ line) =
-    end_choice (byte == 34) (byte ∷ line) (first_of (member_at name depth (byte ∷ line)) (value_of name Inside depth line))
-    (value_of name Outside (depth_after byte depth) line)
-    (end_first (byte ∷ line) (member_at name depth (byte ∷ line)) (value_of name Inside depth line) (member_at-end name depth (byte ∷ line))
-    (end_more byte line (value_of name Inside depth line) (value_of-end name Inside depth line)))
-    (end_more byte line (value_of name Outside (depth_after byte depth) line) (value_of-end name Outside (depth_after byte depth) line))
+value_of-end is_inner name Outside depth [] = tt
+value_of-end is_inner name Inside depth [] = tt
+value_of-end is_inner name Escaped depth [] = tt
+value_of-end is_inner name Escaped depth (byte ∷ line) =
+    end_more byte line (value_of is_inner name Inside depth line) (value_of-end is_inner name Inside depth line)
+value_of-end is_inner name Inside depth (byte ∷ line) =
+    end_more byte line (value_of is_inner name (state_inside byte) depth line) (value_of-end is_inner name (state_inside byte) depth line)
+value_of-end is_inner name Outside depth (byte ∷ line) =
+    let inside = value_of is_inner name Inside depth line in
+    let after = depth_after byte depth in
+    let outside = value_of is_inner name Outside after line in
+    end_choice (byte == 34) (byte ∷ line) (first_of (member_at name depth (byte ∷ line)) inside) (if has_ended is_inner after then None else outside)
+    (end_first (byte ∷ line) (member_at name depth (byte ∷ line)) inside (member_at-end name depth (byte ∷ line))
+    (end_more byte line inside (value_of-end is_inner name Inside depth line)))
+    (end_choice (has_ended is_inner after) (byte ∷ line) None outside tt (end_more byte line outside (value_of-end is_inner name Outside after line)))
+
+point-end : (text : List ℕ) (count : Option ℕ) (behind : ℕ → Option (List ℕ)) → ((n : ℕ) → EndIf text (behind n)) → EndIf text (count >>= behind)
+point-end text None behind h = tt
+point-end text (Some n) behind h = h n
+
+path_of-end : (levels : ℕ) (is_inner : Bool) (path text : List ℕ) → EndIf text (path_of levels is_inner path text)
+unfolding path_of
+path_of-end zero is_inner path text = value_of-end is_inner path Outside 0 text
+path_of-end (suc levels) is_inner path text =
+    let behind : ℕ → Option (List ℕ) = λ (count : ℕ).
+    value_of is_inner (take count path) Outside 0 text >>= λ object. path_of levels true (drop (count + 1) path) object in
+    end_first text (value_of is_inner path Outside 0 text) (before_point path >>= behind) (value_of-end is_inner path Outside 0 text)
+    (point-end text (before_point path) behind (λ count.
+    end_bind text (value_of is_inner (take count path) Outside 0 text) (λ (object : List ℕ). path_of levels true (drop (count + 1) path) object)
+    (value_of-end is_inner (take count path) Outside 0 text) (λ object. path_of-end levels true (drop (count + 1) path) object)))
 
 behind_text-end : (text line : List ℕ) → EndIf line (behind_text text line)
 unfolding behind_text
@@ -138,10 +159,41 @@ field_at-end is_behind_blank number (byte ∷ line) =
     (end_more byte line (field_at false (number - 1) line) (field_at-end false (number - 1) line)))
     (end_more byte line (field_at false number line) (field_at-end false number line)))
 
+last_bracket-end : (is_behind_space : Bool) (text : List ℕ) → EndIf text (last_bracket is_behind_space text)
+unfolding last_bracket
+last_bracket-end is_behind_space [] = tt
+last_bracket-end is_behind_space (byte ∷ text) =
+    let own : Option (List ℕ) = if is_behind_space && (byte == 91) then Some text else None in
+    end_choice (byte == 34) (byte ∷ text) None (first_of (last_bracket (byte == 32) text) own) tt
+    (end_first (byte ∷ text) (last_bracket (byte == 32) text) own
+    (end_more byte text (last_bracket (byte == 32) text) (last_bracket-end (byte == 32) text))
+    (end_choice (is_behind_space && (byte == 91)) (byte ∷ text) (Some text) None (end_behind byte text) tt))
+
+colour_end-end : (text : List ℕ) → EndIf text (colour_end text)
+unfolding colour_end
+colour_end-end [] = tt
+colour_end-end (byte ∷ text) =
+    end_choice (byte == 109) (byte ∷ text) (Some text) (if is_ascii_digit byte || (byte == 59) then colour_end text else None) (end_behind byte text)
+    (end_choice (is_ascii_digit byte || (byte == 59)) (byte ∷ text) (colour_end text) None (end_more byte text (colour_end text) (colour_end-end text)) tt)
+
+past_colour-end : (text : List ℕ) → EndIf text (past_colour text)
+past_colour-end text =
+    let numbered : List ℕ → Option (List ℕ) = λ (bracket : List ℕ). mark_at 91 bracket >>= colour_end in
+    end_bind text (mark_at 27 text) numbered (mark_at-end 27 text)
+    (λ bracket. end_bind bracket (mark_at 91 bracket) colour_end (mark_at-end 91 bracket) colour_end-end)
+
+past_colours-end : (text : List ℕ) → EndIf text (past_colours text)
+past_colours-end text =
+    let more : List ℕ → Option (List ℕ) = λ (rest : List ℕ). first_of (past_colour rest) (Some rest) in
+    end_bind text (past_colour text) more (past_colour-end text)
+    (λ rest. end_first rest (past_colour rest) (Some rest) (past_colour-end rest) (end_same rest))
+
 -- the text at a place
 pub text_at-end : (place : Place) (text line : List ℕ) → EndIf line (text_at place text line)
 unfolding text_at
 text_at-end Front text line = end_same line
 text_at-end (Field number) text line = field_at-end true number line
 text_at-end After text line = behind_text-end text line
-text_at-end Json name line = value_of-end name Outside 0 line
+text_at-end Json name line = path_of-end 7 false name line
+text_at-end Access text line = last_bracket-end false line
+text_at-end Coloured text line = past_colours-end line

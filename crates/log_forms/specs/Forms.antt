@@ -7,11 +7,14 @@ use Rattle.log_forms.specs.declared.names.FormName.{FormName}
 use Rattle.log_forms.specs.declared.names.FormName.TheVariants.{Rfc3339, Rfc3339Comma, Journald, Rfc5424, Rfc3164, Git, Postgres, Clf, GitDefault, Date}
 use Rattle.log_forms.specs.declared.names.FormName.TheVariants.{Rfc2822, Haproxy, NginxError, LocalComma, Local, TwoSpaces, ApacheError, Redis, Tomcat, Erlang}
 use Rattle.log_forms.specs.declared.names.FormName.TheVariants.{Bgl, Syslog, Klog, Android, Unix, UnixMs, UnixUs, UnixNs, Mysql56, Hdfs}
-use Rattle.log_forms.specs.declared.names.FormName.TheVariants.{Spark}
+use Rattle.log_forms.specs.declared.names.FormName.TheVariants.{Spark, SyslogYear, Modsecurity, Php, HourOffset, CiscoUtc, Cisco, Asa, Nxos}
+use Rattle.log_forms.specs.declared.names.FormName.TheVariants.{Django, Splunk, Clickhouse, Suricata, Redis28, Glog}
 use Rattle.log_forms.specs.declared.tables.TheConstants.{RFC3339, RFC3339_COMMA, JOURNALD, RFC5424, RFC3164, GIT, POSTGRES, CLF, GIT_DEFAULT, DATE}
 use Rattle.log_forms.specs.declared.tables.TheConstants.{RFC2822, HAPROXY, NGINX_ERROR, LOCAL_COMMA, LOCAL, TWO_SPACES, APACHE_ERROR, REDIS, TOMCAT, ERLANG}
 use Rattle.log_forms.specs.declared.tables.TheConstants.{BGL, SYSLOG, KLOG, ANDROID, UNIX, UNIX_MS, UNIX_US, UNIX_NS, MYSQL_5_6, HDFS}
-use Rattle.log_forms.specs.declared.tables.TheConstants.{SPARK, RFC5424_LEAD, RFC3164_LEAD, KLOG_LEAD}
+use Rattle.log_forms.specs.declared.tables.TheConstants.{SPARK, RFC5424_LEAD, RFC3164_LEAD, KLOG_LEAD, CISCO_LEAD, CISCO_UTC_LEAD}
+use Rattle.log_forms.specs.declared.tables.TheConstants.{SYSLOG_YEAR, MODSECURITY, PHP, HOUR_OFFSET, CISCO_UTC, CISCO, ASA, NXOS}
+use Rattle.log_forms.specs.declared.tables.TheConstants.{DJANGO, SPLUNK, CLICKHOUSE, SURICATA, REDIS_2_8, GLOG}
 
 -- the name of a form
 abbrev pub form_name : FormName → List ℕ
@@ -39,6 +42,20 @@ form_name Bgl = codes "bgl"
 form_name Syslog = codes "syslog"
 form_name Klog = codes "klog"
 form_name Android = codes "android"
+form_name SyslogYear = codes "syslog-year"
+form_name Modsecurity = codes "modsecurity"
+form_name Php = codes "php"
+form_name HourOffset = codes "hour-offset"
+form_name CiscoUtc = codes "cisco-utc"
+form_name Cisco = codes "cisco"
+form_name Asa = codes "asa"
+form_name Nxos = codes "nxos"
+form_name Django = codes "django"
+form_name Splunk = codes "splunk"
+form_name Clickhouse = codes "clickhouse"
+form_name Suricata = codes "suricata"
+form_name Redis28 = codes "redis-2.8"
+form_name Glog = codes "glog"
 form_name Unix = codes "unix"
 form_name UnixMs = codes "unix-ms"
 form_name UnixUs = codes "unix-us"
@@ -73,6 +90,20 @@ sample_of Bgl = codes "2024-02-29-12.00.00.123456"
 sample_of Syslog = codes "Feb 29 12:00:00"
 sample_of Klog = codes "I0229 12:00:00.123456"
 sample_of Android = codes "02-29 12:00:00.123"
+sample_of SyslogYear = codes "Feb 29 12:00:00 2024"
+sample_of Modsecurity = codes "29/Feb/2024:12:00:00.123456 +0530"
+sample_of Php = codes "29-Feb-2024 12:00:00 UTC"
+sample_of HourOffset = codes "2024-02-29 12:00:00.123 -03"
+sample_of CiscoUtc = codes "*Feb 29 12:00:00.123 UTC"
+sample_of Cisco = codes "*Feb 29 12:00:00.123"
+sample_of Asa = codes "Feb 29 2024 12:00:00"
+sample_of Nxos = codes "2024 Feb 29 12:00:00"
+sample_of Django = codes "29/Feb/2024 12:00:00"
+sample_of Splunk = codes "02-29-2024 12:00:00.123 +0530"
+sample_of Clickhouse = codes "2024.02.29 12:00:00.123456"
+sample_of Suricata = codes "02/29/2024-12:00:00.123456"
+sample_of Redis28 = codes "29 Feb 12:00:00.123"
+sample_of Glog = codes "I20240229 12:00:00.123456"
 sample_of Unix = codes "1709188200.123"
 sample_of UnixMs = codes "1709188200123"
 sample_of UnixUs = codes "1709188200123456"
@@ -107,6 +138,20 @@ items_of Bgl = BGL
 items_of Syslog = SYSLOG
 items_of Klog = KLOG
 items_of Android = ANDROID
+items_of SyslogYear = SYSLOG_YEAR
+items_of Modsecurity = MODSECURITY
+items_of Php = PHP
+items_of HourOffset = HOUR_OFFSET
+items_of CiscoUtc = CISCO_UTC
+items_of Cisco = CISCO
+items_of Asa = ASA
+items_of Nxos = NXOS
+items_of Django = DJANGO
+items_of Splunk = SPLUNK
+items_of Clickhouse = CLICKHOUSE
+items_of Suricata = SURICATA
+items_of Redis28 = REDIS_2_8
+items_of Glog = GLOG
 items_of Unix = UNIX
 items_of UnixMs = UNIX_MS
 items_of UnixUs = UNIX_US
@@ -141,6 +186,20 @@ lead_of Bgl = []
 lead_of Syslog = []
 lead_of Klog = KLOG_LEAD
 lead_of Android = []
+lead_of SyslogYear = []
+lead_of Modsecurity = []
+lead_of Php = []
+lead_of HourOffset = []
+lead_of CiscoUtc = CISCO_UTC_LEAD
+lead_of Cisco = CISCO_LEAD
+lead_of Asa = CISCO_UTC_LEAD
+lead_of Nxos = []
+lead_of Django = []
+lead_of Splunk = []
+lead_of Clickhouse = []
+lead_of Suricata = []
+lead_of Redis28 = []
+lead_of Glog = KLOG_LEAD
 lead_of Unix = []
 lead_of UnixMs = []
 lead_of UnixUs = []
@@ -175,6 +234,20 @@ ahead_of Bgl = 0
 ahead_of Syslog = 0
 ahead_of Klog = 0
 ahead_of Android = 0
+ahead_of SyslogYear = 16
+ahead_of Modsecurity = 4
+ahead_of Php = 4
+ahead_of HourOffset = 0
+ahead_of CiscoUtc = 0
+ahead_of Cisco = 0
+ahead_of Asa = 7
+ahead_of Nxos = 0
+ahead_of Django = 4
+ahead_of Splunk = 4
+ahead_of Clickhouse = 0
+ahead_of Suricata = 4
+ahead_of Redis28 = 0
+ahead_of Glog = 0
 ahead_of Unix = 0
 ahead_of UnixMs = 0
 ahead_of UnixUs = 0
@@ -209,6 +282,20 @@ digits_of Bgl = Some 4
 digits_of Syslog = None
 digits_of Klog = Some 4
 digits_of Android = Some 2
+digits_of SyslogYear = Some 4
+digits_of Modsecurity = Some 4
+digits_of Php = Some 4
+digits_of HourOffset = Some 4
+digits_of CiscoUtc = None
+digits_of Cisco = None
+digits_of Asa = Some 4
+digits_of Nxos = Some 4
+digits_of Django = Some 4
+digits_of Splunk = Some 4
+digits_of Clickhouse = Some 4
+digits_of Suricata = Some 4
+digits_of Redis28 = None
+digits_of Glog = Some 8
 digits_of Unix = Some 10
 digits_of UnixMs = Some 13
 digits_of UnixUs = Some 16

@@ -1,5 +1,5 @@
 -- The instant of the parts of a stamp.
-use Rattle.std.specs.Prelude.{ℕ, ◌==◌, ◌&&◌, ◌||◌, Bool, if◌then◌else◌, nat_lt, ℤ, pos, negsuc, ◌+ℤ◌, ◌-ℤ◌, int_lt, Option, Some, None, is_some, is_none}
+use Rattle.std.specs.Prelude.{ℕ, ◌&&◌, ◌||◌, Bool, if◌then◌else◌, nat_lt, ℤ, pos, negsuc, ◌+ℤ◌, ◌-ℤ◌, ◌-◌, int_lt, Option, Some, None, is_some, is_none}
 use Rattle.std.specs.Prelude.{Result, Ok, Err}
 use Rattle.calendar_values.specs.Range.{is_outside}
 use Rattle.calendar_values.specs.WallClock.{first_wall_clock, last_wall_clock, wall_clock}
@@ -26,12 +26,13 @@ is_whole p = is_some p.offset_hour || has_count p
 abbrev pub lacks_year : Parts → Bool
 lacks_year p = is_none p.year && (is_none p.year_century && (is_none p.iso_year && is_none p.iso_year_century))
 
--- the year of a stamp in a month, by the year and the month of the stamp before: a January after a December is one of the next
--- year, and a December after a January one of the year before
+-- the year of a stamp in a month, by the year and the month of the stamp before, or the assumed year and 0 for the first stamp: the
+-- year in which the month is nearest to that before. A month more than six earlier is of the next year, one more than six later of the
+-- year before
 abbrev pub year_of_month : ℤ → ℕ → ℕ → ℤ
 year_of_month year before month =
-    if (before == 12) && ((month == 1) && int_lt year (pos 999_999)) then year +ℤ pos 1
-    else (if (before == 1) && ((month == 12) && int_lt (negsuc 999_998) year) then year -ℤ pos 1 else year)
+    if nat_lt month (before - 6) && int_lt year (pos 999_999) then year +ℤ pos 1
+    else (if nat_lt 0 before && (nat_lt before (month - 6) && int_lt (negsuc 999_998) year) then year -ℤ pos 1 else year)
 
 -- the assumed year of a stamp, by its month if it has one
 abbrev pub year_by_month : Option ℤ → ℕ → Option ℕ → Option ℤ

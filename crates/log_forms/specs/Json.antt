@@ -1,5 +1,6 @@
 -- The members of an object of JSON in a line.
-use Rattle.std.specs.Prelude.{ℕ, ◌+◌, ◌-◌, ◌==◌, ◌||◌, List, [], ◌∷◌, if◌then◌else◌, Option, Some, None}
+use Rattle.std.specs.Prelude.{ℕ, zero, suc, ◌+◌, ◌-◌, ◌==◌, ◌&&◌, ◌||◌, Bool, true, false, List, [], ◌∷◌, drop, take, if◌then◌else◌, Option, Some, None}
+use Rattle.std.specs.Prelude.{option_map}
 use Rattle.rfc3339.specs.Reading.{◌>>=◌, mark_at}
 use Rattle.log_forms.specs.Marks.{bytes_at, first_of, past_blanks}
 use Rattle.log_forms.specs.declared.json.JsonState.{JsonState}
@@ -35,11 +36,31 @@ named_value name text = do
 unfoldable pub member_at : List ℕ → ℕ → List ℕ → Option (List ℕ)
 member_at name depth text = if depth == 1 then named_value name text else None
 
--- the value of the first member of a name in the outermost object
-unfoldable pub value_of : List ℕ → JsonState → ℕ → List ℕ → Option (List ℕ)
-value_of name state depth [] = None
-value_of name Escaped depth (byte ∷ line) = value_of name Inside depth line
-value_of name Inside depth (byte ∷ line) = value_of name (state_inside byte) depth line
-value_of name Outside depth (byte ∷ line) =
-    if byte == 34 then first_of (member_at name depth (byte ∷ line)) (value_of name Inside depth line)
-    else value_of name Outside (depth_after byte depth) line
+-- whether an object that begins a text has ended
+abbrev pub has_ended : Bool → ℕ → Bool
+has_ended is_inner depth = is_inner && (depth == 0)
+
+-- the value of the first member of a name in the outermost object, or in the object that begins a text
+unfoldable pub value_of : Bool → List ℕ → JsonState → ℕ → List ℕ → Option (List ℕ)
+value_of is_inner name state depth [] = None
+value_of is_inner name Escaped depth (byte ∷ line) = value_of is_inner name Inside depth line
+value_of is_inner name Inside depth (byte ∷ line) = value_of is_inner name (state_inside byte) depth line
+value_of is_inner name Outside depth (byte ∷ line) =
+    if byte == 34 then first_of (member_at name depth (byte ∷ line)) (value_of is_inner name Inside depth line)
+    else (if has_ended is_inner (depth_after byte depth) then None else value_of is_inner name Outside (depth_after byte depth) line)
+
+-- the number of bytes before the first point of a path
+unfoldable pub before_point : List ℕ → Option ℕ
+before_point [] = None
+before_point (byte ∷ path) = if byte == 46 then Some 0 else option_map (λ count. count + 1) (before_point path)
+
+-- the value at a path of names, through so many members at most
+unfoldable pub path_of : ℕ → Bool → List ℕ → List ℕ → Option (List ℕ)
+path_of zero is_inner path text = value_of is_inner path Outside 0 text
+path_of (suc levels) is_inner path text =
+    first_of (value_of is_inner path Outside 0 text) (before_point path >>=
+    λ count. value_of is_inner (take count path) Outside 0 text >>= λ object. path_of levels true (drop (count + 1) path) object)
+
+-- the value of the member of a name, or at a path of names that points separate
+abbrev pub member_of : List ℕ → List ℕ → Option (List ℕ)
+member_of name line = path_of 7 false name line

@@ -14,3 +14,4 @@ pub mod PlaceWords
 pub mod EndLemmas
 pub mod WithinLemmas
 pub mod Splits
+pub mod Samples

@@ -4,7 +4,7 @@ use Rattle.std.specs.Char.{is_ascii_digit}
 use Rattle.std.specs.Str.{bytes_eq}
 use Rattle.log_forms.specs.Marks.{bytes_at}
 use Rattle.log_forms.specs.declared.places.Place.{Place}
-use Rattle.log_forms.specs.declared.places.Place.TheVariants.{Front, Field, After, Json}
+use Rattle.log_forms.specs.declared.places.Place.TheVariants.{Front, Field, After, Json, Access, Coloured}
 
 -- the number of decimal digits after those of another, up to 999
 unfoldable pub number_in : ℕ → List ℕ → Option ℕ
@@ -43,4 +43,6 @@ field_if word None = after_if word (bytes_at (codes "after:") word)
 -- the place of a word, and the number of its bytes before the text or the name
 unfoldable pub place_of : List ℕ → Option (Place × ℕ)
 place_of word =
-    if bytes_eq word (codes "front") then Some (Front, length word) else field_if word (bytes_at (codes "field:") word)
+    if bytes_eq word (codes "front") then Some (Front, length word)
+    else (if bytes_eq word (codes "access") then Some (Access, length word)
+    else (if bytes_eq word (codes "coloured") then Some (Coloured, length word) else field_if word (bytes_at (codes "field:") word)))

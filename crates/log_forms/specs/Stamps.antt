@@ -1,6 +1,6 @@
 -- The stamp of a line in a form, at a place.
 use Rattle.std.specs.Prelude.{ℕ, ◌+◌, ◌-◌, ◌==◌, ◌||◌, Bool, true, false, not, nat_lt, List, drop, length, take, if◌then◌else◌, ℤ}
-use Rattle.std.specs.Prelude.{Option, Some, None, is_some, Result, Ok, Err}
+use Rattle.std.specs.Prelude.{Option, Some, None, Result, Ok, Err}
 use Rattle.std.specs.Char.{is_ascii_digit}
 use Rattle.std.specs.List.{take_while}
 use Rattle.std.specs.Result.{result_map_both}
@@ -9,7 +9,7 @@ use Rattle.format_descriptions.specs.declared.item.Item.{Item}
 use Rattle.format_descriptions.specs.declared.parts.Parts.{Parts}
 use Rattle.format_descriptions.specs.declared.value_refusal.ValueRefusal.{ValueRefusal}
 use Rattle.log_forms.specs.Ends.{is_apart, opens_bracket}
-use Rattle.log_forms.specs.Instants.{instant_of_parts, is_whole}
+use Rattle.log_forms.specs.Instants.{instant_of_parts}
 use Rattle.log_forms.specs.Places.{text_at}
 use Rattle.log_forms.specs.declared.form.Form.{Form}
 use Rattle.log_forms.specs.declared.instants.Assumed.{Assumed}
@@ -50,15 +50,15 @@ stamp_of_instant start count rest (Ok instant) =
     Ok (record { instant = instant; start = start; length = count; is_zoned = opens_bracket rest })
 stamp_of_instant start count rest (Err refusal) = Err (Part refusal)
 
--- the stamp of these parts, if it ends before the rest
+-- the stamp of these parts, of which a text begins with so many bytes, if it ends before the rest
 abbrev pub ended_stamp : Assumed → Parts → ℕ → ℕ → List ℕ → Result Stamp StampRefusal
-ended_stamp assumed p start count rest =
-    if nat_lt longest_stamp (start + count) || not (is_apart (is_whole p) (is_some p.nanosecond) rest) then Err Absent
-    else stamp_of_instant start count rest (instant_of_parts assumed p)
+ended_stamp assumed p start count text =
+    if nat_lt longest_stamp (start + count) || not (is_apart p (take count text) (drop count text)) then Err Absent
+    else stamp_of_instant start count (drop count text) (instant_of_parts assumed p)
 
 -- the stamp of the parts that were read
 abbrev pub read_stamp : Assumed → ℕ → List ℕ → Result (Parts × ℕ) ℕ → Result Stamp StampRefusal
-read_stamp assumed start text (Ok read) = ended_stamp assumed read.0 start read.1 (drop read.1 text)
+read_stamp assumed start text (Ok read) = ended_stamp assumed read.0 start read.1 text
 read_stamp assumed start text (Err place) = Err Absent
 
 -- the stamp at the front of a text, which is the end of this many bytes

@@ -1,14 +1,14 @@
 -- The bytes of a stamp are bytes of its line, of which the first 1,024 decide.
 use Rattle.std.proofs.Common.{◌≡◌, ℕ, ◌+◌, ◌-◌, ◌≤◌, Bool, true, false, not, nat_lt, List, ◌++◌, length, take, drop, ap, arith}
 use Rattle.std.proofs.lemmas.List.{length-drop, length-take, take-append-le}
-use Rattle.std.specs.Prelude.{ℤ, ◌||◌, if◌then◌else◌, Option, Some, None, Result, Ok, Err, ⊤, is_some}
+use Rattle.std.specs.Prelude.{ℤ, ◌||◌, if◌then◌else◌, Option, Some, None, Result, Ok, Err, ⊤}
 use Rattle.std.specs.Result.{result_map_both}
 use Rattle.format_descriptions.specs.Read.{Front, front_of, no_parts}
 use Rattle.format_descriptions.specs.declared.parts.Parts.{Parts}
 use Rattle.format_descriptions.specs.declared.value_refusal.ValueRefusal.{ValueRefusal}
 use Rattle.log_forms.specs.EndLemmas.{EndIf, text_at-end}
 use Rattle.log_forms.specs.Ends.{is_apart}
-use Rattle.log_forms.specs.Instants.{instant_of_parts, is_whole}
+use Rattle.log_forms.specs.Instants.{instant_of_parts}
 use Rattle.log_forms.specs.Places.{text_at}
 use Rattle.log_forms.specs.Stamps.{ended_stamp, front_reading, has_digits, longest_stamp, read_stamp, stamp_after, stamp_at, stamp_at_text}
 use Rattle.log_forms.specs.Stamps.{stamp_in, stamp_of_instant}
@@ -37,10 +37,11 @@ where_within : (passes : Bool) (r : Result Stamp StampRefusal) (most : ℕ) → 
 where_within true r most h = h
 where_within false r most h = tt
 
-ended_within : (assumed : Assumed) (p : Parts) (start count most : ℕ) (rest : List ℕ) → start + count ≤ most
-    → StampWithin (ended_stamp assumed p start count rest) most
-ended_within assumed p start count most rest h =
-    unless_within (nat_lt longest_stamp (start + count) || not (is_apart (is_whole p) (is_some p.nanosecond) rest))
+ended_within : (assumed : Assumed) (p : Parts) (start count most : ℕ) (text : List ℕ) → start + count ≤ most
+    → StampWithin (ended_stamp assumed p start count text) most
+ended_within assumed p start count most text h =
+    let rest = drop count text in
+    unless_within (nat_lt longest_stamp (start + count) || not (is_apart p (take count text) rest))
     (stamp_of_instant start count rest (instant_of_parts assumed p)) most (instant_within start count most rest (instant_of_parts assumed p) h)
 
 -- what items read, as places in a text
@@ -50,7 +51,7 @@ placed text front = result_map_both (λ read. (read.0, length text - length read
 read_within : (assumed : Assumed) (start most : ℕ) (text : List ℕ) (front : Front) → start + length text ≤ most
     → StampWithin (read_stamp assumed start text (placed text front)) most
 read_within assumed start most text (Ok read) h =
-    let count = length text - length read.1 in ended_within assumed read.0 start count most (drop count text) (omega (arith, h))
+    let count = length text - length read.1 in ended_within assumed read.0 start count most text (omega (arith, h))
 read_within assumed start most text (Err left) h = tt
 
 in_within : (form : Form) (assumed : Assumed) (count : ℕ) (text : List ℕ) → length text ≤ count → StampWithin (stamp_in form assumed count text) count

@@ -1,6 +1,8 @@
 //! The choice of a form and a place by the first lines of a log.
-ghost use Rattle.std.specs.Prelude.{◌≡◌, ◌≤◌, length, map};
-ghost use Rattle.log_forms.specs.Choices.{best_of, choice_of, count_in, count_read, most, reader_form, reader_key, reader_place, better_of};
+ghost use Rattle.std.specs.Prelude.{◌≡◌, ◌≤◌, pos, ◌+ℤ◌, IsTrue, length, map};
+ghost use Rattle.log_forms.specs.Choices.{any_reads, best_of, better_of, choice_of, count_in, count_read, is_read_by_any, most};
+ghost use Rattle.log_forms.specs.Choices.{found_by, is_bare, is_bare_at, is_count, is_near, is_next, is_sure, names_counts, no_bare_in};
+ghost use Rattle.log_forms.specs.Choices.{reader_form, reader_key, reader_place, reads, some_year, span_with, steady_by, steady_in};
 
 use crate::form::{Form, named_form};
 use crate::instants::Assumed;
@@ -9,8 +11,8 @@ use crate::places::Place;
 use crate::stamps::stamp_at;
 use calendar_values::UtcOffset;
 
-/// The number of the readers among which one is chosen: 28 forms at 12 places.
-pub const READERS: usize = 336;
+/// The number of the readers among which one is chosen: 42 forms at 36 places.
+pub const READERS: usize = 1512;
 
 /// The form of a reader, by its number: all forms that are chosen at the front, then at the next
 /// place.
@@ -25,42 +27,71 @@ pub fn reader_form(reader: usize) -> FormName
 pub fn reader_place(reader: usize) -> Place
     ensures { result ≡ reader_place reader }
 {
-    let number = reader / CHOSEN;
-    if number == 0 {
-        Place::Front
-    } else if number == 1 || (7 <= number && number <= 9) {
-        Place::After
-    } else if number <= 6 {
-        Place::Json
-    } else if number == 10 {
-        Place::Field(2)
-    } else {
-        Place::Field(3)
+    match reader / CHOSEN {
+        0 => Place::Front,
+        1 => Place::Coloured,
+        2 => Place::Access,
+        4..=14 => Place::Json,
+        29 => Place::Field(2),
+        30 => Place::Field(3),
+        31 => Place::Field(1),
+        _ => Place::After,
     }
 }
 
-/// The text or the name of the place of a reader, by its number. It is empty at the front and for
-/// fields.
+/// The text or the name of the place of a reader, by its number. It is empty where the place has
+/// none.
 pub fn reader_key(reader: usize) -> &'static str
     ensures { result.now ≡ reader_key reader }
 {
     match reader / CHOSEN {
-        1 => "[",
-        2 => "time",
-        3 => "timestamp",
-        4 => "@timestamp",
-        5 => "ts",
-        6 => "eventTime",
-        7 => "\"$date\":\"",
-        8 => "time=\"",
-        9 => "time=",
+        3 => "[",
+        4 => "time",
+        5 => "timestamp",
+        6 => "@timestamp",
+        7 => "ts",
+        8 => "eventTime",
+        9 => "@t",
+        10 => "time_iso8601",
+        11 => "time_local",
+        12 => "msec",
+        13 => "requestReceivedTimestamp",
+        14 => "__REALTIME_TIMESTAMP",
+        15 => "\"$date\":\"",
+        16 => "time=\"",
+        17 => "time=",
+        18 => "time='",
+        19 => "ts=",
+        20 => " t=",
+        21 => "t=",
+        22 => "audit(",
+        23 => "__REALTIME_TIMESTAMP=",
+        24 => "eventtime=",
+        25 => "\"eventTime\":\"",
+        26 => ": [",
+        27 => "] ",
+        28 => " at ",
+        32 => ",",
+        33 => "\"",
+        34 => "#",
+        35 => ": ",
         _ => "",
     }
 }
 
-/// The number of the reader for a log, by its first lines that are not empty. It is the first one
-/// that finds a stamp in both of the first two lines, if there is one. Otherwise it is the one that
-/// finds a stamp in the most lines, and the first of these. None if no reader finds a stamp.
+// Whether the place of a reader says that a count there is a Unix timestamp: it has a name, or a bracket.
+fn names_counts(reader: usize) -> bool
+    ensures { result ≡ names_counts reader }
+{
+    let number = reader / CHOSEN;
+    2 <= number && number <= 26
+}
+
+/// The number of the reader for a log, by the first of its lines that a reader reads. It is the
+/// first one that finds a stamp in both of the first two lines, if there is one. Otherwise it is
+/// the one that finds a stamp in the most lines, and the first of these. None if no reader finds a
+/// stamp. A reader of counts without a fraction, to which no name leads, needs two of them that
+/// grow by less than 366 days.
 pub fn choose(lines: &[&[u8]]) -> Option<usize>
     ensures choice { result ≡ choice_of (map (λ line. line.now) lines.now) }
 {
@@ -75,6 +106,32 @@ pub fn choose(lines: &[&[u8]]) -> Option<usize>
         }
         _ => most(best_of(READERS, lines)),
     }
+}
+
+/// Whether one of the readers finds a stamp in a line. A bare count, such as `1709188200` at the
+/// front, is a stamp if its year is one of 2000 to 2039.
+pub fn is_read_by_any(line: &[u8]) -> bool
+    ensures { result ≡ is_read_by_any line.now }
+{
+    any_reads(READERS, line)
+}
+
+// Whether one of the first readers finds a stamp in a line.
+#[tactic(auto, using(crate::proofs::ChoiceLemmas::any_next))]
+fn any_reads(readers: usize, line: &[u8]) -> bool
+    ensures { result ≡ any_reads readers line.now }
+{
+    if readers == 0 {
+        return false;
+    }
+    any_reads(readers - 1, line) || reads(readers - 1, line)
+}
+
+// Whether a reader finds a stamp in a line, which is no count that is far from now.
+fn reads(reader: usize, line: &[u8]) -> bool
+    ensures { result ≡ reads reader line.now }
+{
+    found_by(reader, &[line]) > 0 && (is_sure(reader, &[line]) || steady_by(reader, &[line]))
 }
 
 // The best reader, if it finds a stamp at all.
@@ -108,19 +165,165 @@ fn better_of(before: (usize, usize), reader: usize, count: usize) -> (usize, usi
     }
 }
 
-// In how many lines a reader finds a stamp.
-#[tactic(auto, unfolding(crate::specs::Choices::count_read))]
+// How many lines choose a reader: those in which it finds a stamp. Bare counts choose it if they are two, and grow slowly.
 fn count_read(reader: usize, lines: &[&[u8]]) -> usize
     ensures { result ≡ count_read reader (map (λ line. line.now) lines.now) }
 {
-    let form = named_form(reader_form(reader));
-    let assumed = Assumed {
+    let count = found_by(reader, lines);
+    if count == 0 || is_sure(reader, lines) || (count >= 2 && steady_by(reader, lines)) {
+        count
+    } else {
+        0
+    }
+}
+
+// What is assumed while a reader is chosen.
+fn some_year() -> Assumed
+    ensures { result ≡ some_year }
+{
+    Assumed {
         offset: Some(UtcOffset::UTC),
         year: Some(2_000),
         month: 0,
-    };
+    }
+}
+
+// In how many lines a reader finds a stamp.
+#[tactic(auto, unfolding(crate::specs::Choices::found_by))]
+fn found_by(reader: usize, lines: &[&[u8]]) -> usize
+    ensures { result ≡ found_by reader (map (λ line. line.now) lines.now) }
+{
+    let form = named_form(reader_form(reader));
     let key = reader_key(reader).as_bytes();
-    count_in(&form, reader_place(reader), key, &assumed, lines)
+    count_in(&form, reader_place(reader), key, &some_year(), lines)
+}
+
+// Whether no stamp of a reader is a bare count.
+#[tactic(auto, unfolding(crate::specs::Choices::is_sure))]
+fn is_sure(reader: usize, lines: &[&[u8]]) -> bool
+    ensures { result ≡ is_sure reader (map (λ line. line.now) lines.now) }
+{
+    let name = reader_form(reader);
+    if names_counts(reader) || !is_count(name) {
+        return true;
+    }
+    let form = named_form(name);
+    let key = reader_key(reader).as_bytes();
+    no_bare_in(&form, reader_place(reader), key, &some_year(), lines)
+}
+
+// Whether the stamps of a form are counts.
+fn is_count(name: FormName) -> bool
+    ensures { result ≡ is_count name }
+{
+    matches!(
+        name,
+        FormName::Unix | FormName::UnixMs | FormName::UnixUs | FormName::UnixNs
+    )
+}
+
+// Whether each stamp of a form has more than the digits that it counts.
+#[tactic(auto, unfolding(crate::specs::Choices::no_bare_in))]
+fn no_bare_in(form: &Form, place: Place, key: &[u8], assumed: &Assumed, lines: &[&[u8]]) -> bool
+    ensures { result ≡ no_bare_in form.now place key.now assumed.now
+        (map (λ line. line.now) lines.now) }
+{
+    let Some((line, rest)) = lines.split_first() else {
+        return true;
+    };
+    !is_bare_at(form, place, key, assumed, line) && no_bare_in(form, place, key, assumed, rest)
+}
+
+// Whether the stamp of a line, if it has one, has no more than the digits that its form counts.
+fn is_bare_at(form: &Form, place: Place, key: &[u8], assumed: &Assumed, line: &[u8]) -> bool
+    ensures { result ≡ is_bare_at form.now place key.now assumed.now line.now }
+{
+    match stamp_at(form, place, key, assumed, line) {
+        Ok(stamp) => is_bare(form.digits, stamp.length),
+        Err(_) => false,
+    }
+}
+
+// Whether a stamp of this length has no more than the digits that are counted.
+fn is_bare(digits: Option<usize>, length: usize) -> bool
+    ensures { result ≡ is_bare digits length }
+{
+    match digits {
+        Some(digits) => length <= digits,
+        None => false,
+    }
+}
+
+// Whether the stamps of a reader grow slowly, near now.
+#[tactic(auto, unfolding(crate::specs::Choices::steady_by))]
+fn steady_by(reader: usize, lines: &[&[u8]]) -> bool
+    ensures { result ≡ steady_by reader (map (λ line. line.now) lines.now) }
+{
+    let form = named_form(reader_form(reader));
+    let key = reader_key(reader).as_bytes();
+    steady_in(&form, reader_place(reader), key, &some_year(), None, lines)
+}
+
+// Whether the stamps of a form grow slowly, near now, after those from the first to the last instant, if there are any.
+#[tactic(auto, unfolding(crate::specs::Choices::steady_in))]
+fn steady_in(
+    form: &Form,
+    place: Place,
+    key: &[u8],
+    assumed: &Assumed,
+    span: Option<(i128, i128)>,
+    lines: &[&[u8]],
+) -> bool
+    ensures { result ≡ steady_in form.now place key.now assumed.now span
+        (map (λ line. line.now) lines.now) }
+{
+    let Some((line, rest)) = lines.split_first() else {
+        return true;
+    };
+    match stamp_at(form, place, key, assumed, line) {
+        Ok(stamp) => {
+            let at = stamp.instant.unix_timestamp_nanos();
+            is_next(span, at) && steady_in(form, place, key, assumed, span_with(span, at), rest)
+        }
+        Err(_) => steady_in(form, place, key, assumed, span, rest),
+    }
+}
+
+// Whether an instant is near now, no earlier than the last one, and less than a year after the first.
+fn is_next(span: Option<(i128, i128)>, at: i128) -> bool
+    ensures { result ≡ is_next span at }
+{
+    match span {
+        Some((first, last)) => {
+            is_near(first) && is_near(at) && last <= at && at < year_after(first)
+        }
+        None => is_near(at),
+    }
+}
+
+// Whether an instant is of one of the years 2000 to 2039.
+fn is_near(at: i128) -> bool
+    ensures { result ≡ is_near at }
+{
+    946_684_800_000_000_000 <= at && at < 2_208_988_800_000_000_000
+}
+
+// The instant 366 days later.
+fn year_after(first: i128) -> i128
+    requires { IsTrue (is_near first) }
+    ensures { result ≡ first +ℤ pos 31_622_400_000_000_000 }
+{
+    first + 31_622_400_000_000_000
+}
+
+// The first and the last instant with one more.
+fn span_with(span: Option<(i128, i128)>, at: i128) -> Option<(i128, i128)>
+    ensures { result ≡ span_with span at }
+{
+    match span {
+        Some((first, _)) => Some((first, at)),
+        None => Some((at, at)),
+    }
 }
 
 // In how many lines a form has a stamp at a place.

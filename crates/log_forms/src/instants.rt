@@ -55,7 +55,7 @@ pub(crate) fn is_whole(parts: &Parts) -> bool
 }
 
 // Whether the parts have a count of a Unix timestamp.
-fn has_count(parts: &Parts) -> bool
+pub(crate) fn has_count(parts: &Parts) -> bool
     ensures { result ≡ has_count parts.now }
 {
     parts.unix_second.is_some()
@@ -80,7 +80,7 @@ fn date_known(assumed: &Assumed, parts: &Parts) -> Result<Date, ValueRefusal>
 }
 
 // Whether the parts have no year.
-fn lacks_year(parts: &Parts) -> bool
+pub(crate) fn lacks_year(parts: &Parts) -> bool
     ensures { result ≡ lacks_year parts.now }
 {
     parts.year.is_none()
@@ -103,10 +103,10 @@ fn assumed_year(assumed: &Assumed, month: Option<u32>) -> Option<i32>
 fn year_of_month(year: i32, before: u32, month: u32) -> i32
     ensures { result ≡ year_of_month year before month }
 {
-    if before == 12 && month == 1 && year < 999_999 {
+    if month < before.saturating_sub(6) && year < 999_999 {
         return year + 1;
     }
-    if before == 1 && month == 12 && year > -999_999 {
+    if 0 < before && before < month.saturating_sub(6) && year > -999_999 {
         return year - 1;
     }
     year

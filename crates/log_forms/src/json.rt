@@ -1,6 +1,6 @@
 //! Members of an object of JSON in a line.
-ghost use Rattle.std.specs.Prelude.{◌≡◌, ◌≤◌, ◌+◌, length, option_map, IfSome};
-ghost use Rattle.log_forms.specs.Json.{depth_after, member_at, state_inside, value_text, value_of};
+ghost use Rattle.std.specs.Prelude.{◌≡◌, ◌<◌, ◌≤◌, ◌+◌, drop, length, option_map, IfSome};
+ghost use Rattle.log_forms.specs.Json.{before_point, depth_after, member_at, member_of, path_of, state_inside, value_text, value_of};
 
 use crate::places::{after_bytes, after_mark, past_blanks};
 
@@ -15,9 +15,73 @@ pub enum JsonState {
     Escaped,
 }
 
-// The value of the first member of a name, in the outermost object: what follows the `"` of a text, or the number.
+// The most members that a path goes through before its last one.
+const MOST_LEVELS: usize = 7;
+
+// The value of the member of a name in the outermost object. If there is none, the points of the name separate the names of members, each
+// in the object that the one before it has.
+pub(crate) fn member_of<'a>(name: &[u8], line: &'a [u8]) -> Option<&'a [u8]>
+    requires { length line.now ≤ 1_024 }
+    ensures value { option_map (λ rest. rest.now) result ≡ member_of name.now line.now }
+    ensures shorter { IfSome result (λ rest. length rest.now ≤ length line.now) }
+{
+    path_of(MOST_LEVELS, false, name, line)
+}
+
+// The value at a path of names, through at most so many members, in an object that begins a text, or in the outermost one.
+#[tactic(auto, using(crate::proofs::PathLemmas::path_next))]
+fn path_of<'a>(levels: usize, is_inner: bool, path: &[u8], text: &'a [u8]) -> Option<&'a [u8]>
+    requires { length text.now ≤ 1_024 }
+    ensures value { option_map (λ rest. rest.now) result
+        ≡ path_of levels is_inner path.now text.now }
+    ensures shorter { IfSome result (λ rest. length rest.now ≤ length text.now) }
+{
+    if let Some(found) = value_of(is_inner, path, JsonState::Outside, 0, text) {
+        return Some(found);
+    }
+    if levels == 0 {
+        return None;
+    }
+    let Some(count) = before_point(path) else {
+        return None;
+    };
+    match value_of(is_inner, &path[..count], JsonState::Outside, 0, text) {
+        Some(object) => path_of(levels - 1, true, behind(count + 1, path), object),
+        None => None,
+    }
+}
+
+// A path without this many bytes in front.
+fn behind(count: usize, path: &[u8]) -> &[u8]
+    requires { count ≤ length path.now }
+    ensures { result.now ≡ drop count path.now }
+{
+    &path[count..]
+}
+
+// The number of bytes before the first point of a path.
+#[tactic(auto, unfolding(crate::specs::Json::before_point))]
+fn before_point(path: &[u8]) -> Option<usize>
+    ensures value { result ≡ before_point path.now }
+    ensures within { IfSome result (λ count. count < length path.now) }
+{
+    let Some((first, rest)) = path.split_first() else {
+        return None;
+    };
+    if *first == b'.' {
+        return Some(0);
+    }
+    match before_point(rest) {
+        Some(count) => Some(count + 1),
+        None => None,
+    }
+}
+
+// The value of the first member of a name, in the outermost object, or in the object that begins a text: what follows the `"` of a text,
+// or the number.
 #[tactic(auto, unfolding(crate::specs::Json::value_of))]
 pub(crate) fn value_of<'a>(
+    is_inner: bool,
     name: &[u8],
     state: JsonState,
     depth: usize,
@@ -25,22 +89,26 @@ pub(crate) fn value_of<'a>(
 ) -> Option<&'a [u8]>
     requires { depth + length line.now ≤ 1_024 }
     ensures value { option_map (λ rest. rest.now) result
-        ≡ value_of name.now state depth line.now }
+        ≡ value_of is_inner name.now state depth line.now }
     ensures shorter { IfSome result (λ rest. length rest.now ≤ length line.now) }
 {
     let Some((first, rest)) = line.split_first() else {
         return None;
     };
     match state {
-        JsonState::Escaped => value_of(name, JsonState::Inside, depth, rest),
-        JsonState::Inside => value_of(name, state_inside(*first), depth, rest),
+        JsonState::Escaped => value_of(is_inner, name, JsonState::Inside, depth, rest),
+        JsonState::Inside => value_of(is_inner, name, state_inside(*first), depth, rest),
         JsonState::Outside => {
             if *first != b'"' {
-                return value_of(name, state, depth_after(*first, depth), rest);
+                let depth = depth_after(*first, depth);
+                if is_inner && depth == 0 {
+                    return None;
+                }
+                return value_of(is_inner, name, state, depth, rest);
             }
             match member_at(name, depth, line) {
                 Some(value) => Some(value),
-                None => value_of(name, JsonState::Inside, depth, rest),
+                None => value_of(is_inner, name, JsonState::Inside, depth, rest),
             }
         }
     }

@@ -56,6 +56,34 @@ pub enum FormName {
     Klog,
     /// `android`, as `02-29 12:00:00.123`.
     Android,
+    /// `syslog-year`, as `Feb 29 12:00:00 2024`.
+    SyslogYear,
+    /// `modsecurity`, as `29/Feb/2024:12:00:00.123456 +0530`.
+    Modsecurity,
+    /// `php`, as `29-Feb-2024 12:00:00 UTC`.
+    Php,
+    /// `hour-offset`, as `2024-02-29 12:00:00.123 -03`.
+    HourOffset,
+    /// `cisco-utc`, as `*Feb 29 12:00:00.123 UTC`.
+    CiscoUtc,
+    /// `cisco`, as `*Feb 29 12:00:00.123`.
+    Cisco,
+    /// `asa`, as `Feb 29 2024 12:00:00`.
+    Asa,
+    /// `nxos`, as `2024 Feb 29 12:00:00`.
+    Nxos,
+    /// `django`, as `29/Feb/2024 12:00:00`.
+    Django,
+    /// `splunk`, as `02-29-2024 12:00:00.123 +0530`.
+    Splunk,
+    /// `clickhouse`, as `2024.02.29 12:00:00.123456`.
+    Clickhouse,
+    /// `suricata`, as `02/29/2024-12:00:00.123456`.
+    Suricata,
+    /// `redis-2.8`, as `29 Feb 12:00:00.123`.
+    Redis28,
+    /// `glog`, as `I20240229 12:00:00.123456`.
+    Glog,
     /// `unix`, as `1709188200.123`.
     Unix,
     /// `unix-ms`, as `1709188200123`.
@@ -73,7 +101,7 @@ pub enum FormName {
 }
 
 /// All forms, in the order in which one is chosen. `CHOSEN` has the number of those that are.
-pub const FORMS: [FormName; 31] = [
+pub const FORMS: [FormName; 45] = [
     FormName::Rfc3339,
     FormName::Rfc3339Comma,
     FormName::Journald,
@@ -98,6 +126,20 @@ pub const FORMS: [FormName; 31] = [
     FormName::Syslog,
     FormName::Klog,
     FormName::Android,
+    FormName::SyslogYear,
+    FormName::Modsecurity,
+    FormName::Php,
+    FormName::HourOffset,
+    FormName::CiscoUtc,
+    FormName::Cisco,
+    FormName::Asa,
+    FormName::Nxos,
+    FormName::Django,
+    FormName::Splunk,
+    FormName::Clickhouse,
+    FormName::Suricata,
+    FormName::Redis28,
+    FormName::Glog,
     FormName::Unix,
     FormName::UnixMs,
     FormName::UnixUs,
@@ -109,7 +151,7 @@ pub const FORMS: [FormName; 31] = [
 
 /// The number of the forms of [`FORMS`] that are chosen without a name. Those after them have years
 /// of two digits, from 1970 to 2069, and are read by their names alone.
-pub const CHOSEN: usize = 28;
+pub const CHOSEN: usize = 42;
 
 /// The name of a form, as the command line has it.
 pub fn form_name(name: FormName) -> &'static str
@@ -140,6 +182,20 @@ pub fn form_name(name: FormName) -> &'static str
         FormName::Syslog => "syslog",
         FormName::Klog => "klog",
         FormName::Android => "android",
+        FormName::SyslogYear => "syslog-year",
+        FormName::Modsecurity => "modsecurity",
+        FormName::Php => "php",
+        FormName::HourOffset => "hour-offset",
+        FormName::CiscoUtc => "cisco-utc",
+        FormName::Cisco => "cisco",
+        FormName::Asa => "asa",
+        FormName::Nxos => "nxos",
+        FormName::Django => "django",
+        FormName::Splunk => "splunk",
+        FormName::Clickhouse => "clickhouse",
+        FormName::Suricata => "suricata",
+        FormName::Redis28 => "redis-2.8",
+        FormName::Glog => "glog",
         FormName::Unix => "unix",
         FormName::UnixMs => "unix-ms",
         FormName::UnixUs => "unix-us",
@@ -179,6 +235,20 @@ pub fn sample_of(name: FormName) -> &'static str
         FormName::Syslog => "Feb 29 12:00:00",
         FormName::Klog => "I0229 12:00:00.123456",
         FormName::Android => "02-29 12:00:00.123",
+        FormName::SyslogYear => "Feb 29 12:00:00 2024",
+        FormName::Modsecurity => "29/Feb/2024:12:00:00.123456 +0530",
+        FormName::Php => "29-Feb-2024 12:00:00 UTC",
+        FormName::HourOffset => "2024-02-29 12:00:00.123 -03",
+        FormName::CiscoUtc => "*Feb 29 12:00:00.123 UTC",
+        FormName::Cisco => "*Feb 29 12:00:00.123",
+        FormName::Asa => "Feb 29 2024 12:00:00",
+        FormName::Nxos => "2024 Feb 29 12:00:00",
+        FormName::Django => "29/Feb/2024 12:00:00",
+        FormName::Splunk => "02-29-2024 12:00:00.123 +0530",
+        FormName::Clickhouse => "2024.02.29 12:00:00.123456",
+        FormName::Suricata => "02/29/2024-12:00:00.123456",
+        FormName::Redis28 => "29 Feb 12:00:00.123",
+        FormName::Glog => "I20240229 12:00:00.123456",
         FormName::Unix => "1709188200.123",
         FormName::UnixMs => "1709188200123",
         FormName::UnixUs => "1709188200123456",
@@ -219,6 +289,20 @@ pub(crate) fn items_of(name: FormName) -> &'static [Item]
         FormName::Syslog => &tables::SYSLOG,
         FormName::Klog => &tables::KLOG,
         FormName::Android => &tables::ANDROID,
+        FormName::SyslogYear => &tables::SYSLOG_YEAR,
+        FormName::Modsecurity => &tables::MODSECURITY,
+        FormName::Php => &tables::PHP,
+        FormName::HourOffset => &tables::HOUR_OFFSET,
+        FormName::CiscoUtc => &tables::CISCO_UTC,
+        FormName::Cisco => &tables::CISCO,
+        FormName::Asa => &tables::ASA,
+        FormName::Nxos => &tables::NXOS,
+        FormName::Django => &tables::DJANGO,
+        FormName::Splunk => &tables::SPLUNK,
+        FormName::Clickhouse => &tables::CLICKHOUSE,
+        FormName::Suricata => &tables::SURICATA,
+        FormName::Redis28 => &tables::REDIS_2_8,
+        FormName::Glog => &tables::GLOG,
         FormName::Unix => &tables::UNIX,
         FormName::UnixMs => &tables::UNIX_MS,
         FormName::UnixUs => &tables::UNIX_US,
@@ -259,6 +343,20 @@ pub(crate) fn lead_of(name: FormName) -> &'static [Item]
         FormName::Syslog => &[],
         FormName::Klog => &tables::KLOG_LEAD,
         FormName::Android => &[],
+        FormName::SyslogYear => &[],
+        FormName::Modsecurity => &[],
+        FormName::Php => &[],
+        FormName::HourOffset => &[],
+        FormName::CiscoUtc => &tables::CISCO_UTC_LEAD,
+        FormName::Cisco => &tables::CISCO_LEAD,
+        FormName::Asa => &tables::CISCO_UTC_LEAD,
+        FormName::Nxos => &[],
+        FormName::Django => &[],
+        FormName::Splunk => &[],
+        FormName::Clickhouse => &[],
+        FormName::Suricata => &[],
+        FormName::Redis28 => &[],
+        FormName::Glog => &tables::KLOG_LEAD,
         FormName::Unix => &[],
         FormName::UnixMs => &[],
         FormName::UnixUs => &[],
@@ -298,6 +396,20 @@ pub(crate) fn ahead_of(name: FormName) -> usize
         FormName::Syslog => 0,
         FormName::Klog => 0,
         FormName::Android => 0,
+        FormName::SyslogYear => 16,
+        FormName::Modsecurity => 4,
+        FormName::Php => 4,
+        FormName::HourOffset => 0,
+        FormName::CiscoUtc => 0,
+        FormName::Cisco => 0,
+        FormName::Asa => 7,
+        FormName::Nxos => 0,
+        FormName::Django => 4,
+        FormName::Splunk => 4,
+        FormName::Clickhouse => 0,
+        FormName::Suricata => 4,
+        FormName::Redis28 => 0,
+        FormName::Glog => 0,
         FormName::Unix => 0,
         FormName::UnixMs => 0,
         FormName::UnixUs => 0,
@@ -337,6 +449,20 @@ pub(crate) fn digits_of(name: FormName) -> Option<usize>
         FormName::Syslog => None,
         FormName::Klog => Some(4),
         FormName::Android => Some(2),
+        FormName::SyslogYear => Some(4),
+        FormName::Modsecurity => Some(4),
+        FormName::Php => Some(4),
+        FormName::HourOffset => Some(4),
+        FormName::CiscoUtc => None,
+        FormName::Cisco => None,
+        FormName::Asa => Some(4),
+        FormName::Nxos => Some(4),
+        FormName::Django => Some(4),
+        FormName::Splunk => Some(4),
+        FormName::Clickhouse => Some(4),
+        FormName::Suricata => Some(4),
+        FormName::Redis28 => None,
+        FormName::Glog => Some(8),
         FormName::Unix => Some(10),
         FormName::UnixMs => Some(13),
         FormName::UnixUs => Some(16),

@@ -4,14 +4,21 @@ ghost use Rattle.log_forms.specs.PlaceWords.{field_numbered, number_in, place_of
 
 use crate::places::{Place, after_bytes};
 
-/// The place of a word, and the number of its bytes before the text or the name: `front`,
-/// `field:N` with N from 1 to 999, `after:TEXT`, or `json:NAME`. None if the word is no place.
+/// The place of a word, and the number of its bytes before the text or the name: `front`, `access`,
+/// `coloured`, `field:N` with N from 1 to 999, `after:TEXT`, or `json:NAME`. None if the word is no
+/// place.
 #[tactic(auto, unfolding(crate::specs::PlaceWords::place_of))]
 pub fn place_of(word: &[u8]) -> Option<(Place, usize)>
     ensures value { result ≡ place_of word.now }
 {
     if word == b"front".as_slice() {
         return Some((Place::Front, word.len()));
+    }
+    if word == b"access".as_slice() {
+        return Some((Place::Access, word.len()));
+    }
+    if word == b"coloured".as_slice() {
+        return Some((Place::Coloured, word.len()));
     }
     match after_bytes(b"field:", word) {
         Some(digits) => field_numbered(word.len(), number_in(0, digits)),

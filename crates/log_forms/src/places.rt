@@ -1,10 +1,10 @@
 //! Where in a line a stamp is.
 ghost use Rattle.std.specs.Prelude.{◌≡◌, ◌≤◌, length, option_map, IfSome, true};
 ghost use Rattle.rfc3339.specs.Reading.{mark_at};
-ghost use Rattle.log_forms.specs.Places.{behind_text, field_at, text_at};
+ghost use Rattle.log_forms.specs.Places.{behind_text, colour_end, field_at, last_bracket, past_colour, past_colours, text_at};
 ghost use Rattle.log_forms.specs.Marks.{bytes_at, is_blank, past_blanks};
 
-use crate::json::{JsonState, value_of};
+use crate::json::member_of;
 
 /// Where in a line a stamp begins.
 #[derive(Clone, Copy, Debug, PartialEq, Eq)]
@@ -15,8 +15,14 @@ pub enum Place {
     Field(usize),
     /// After the first place of a text.
     After,
-    /// At the value of the first member of a name, in the outermost object of JSON.
+    /// At the value of the first member of a name, in the outermost object of JSON. If there is
+    /// none, `a.b` is the member `b` in the object of the member `a`.
     Json,
+    /// After the last `[` that follows a space, before the first quote: the time of an access log.
+    /// The name of the user, which a client chooses, comes before it, and the request after it.
+    Access,
+    /// After one or two colours of a terminal.
+    Coloured,
 }
 
 // The line from a place on. The text is the one of `After`, and the name of `Json`.
@@ -30,7 +36,81 @@ pub(crate) fn text_at<'a>(place: Place, text: &[u8], line: &'a [u8]) -> Option<&
         Place::Front => Some(line),
         Place::Field(number) => field_at(true, number, line),
         Place::After => behind_text(text, line),
-        Place::Json => value_of(text, JsonState::Outside, 0, line),
+        Place::Json => member_of(text, line),
+        Place::Access => last_bracket(false, line),
+        Place::Coloured => past_colours(line),
+    }
+}
+
+// The rest after the last bracket behind a space, before the first quote, by whether a space is before the text.
+#[tactic(auto, unfolding(crate::specs::Places::last_bracket))]
+fn last_bracket(is_behind_space: bool, text: &[u8]) -> Option<&[u8]>
+    ensures value { option_map (λ rest. rest.now) result
+        ≡ last_bracket is_behind_space text.now }
+    ensures shorter { IfSome result (λ rest. length rest.now ≤ length text.now) }
+{
+    let Some((first, rest)) = text.split_first() else {
+        return None;
+    };
+    if *first == b'"' {
+        return None;
+    }
+    match last_bracket(*first == b' ', rest) {
+        Some(found) => Some(found),
+        None => {
+            if is_behind_space && *first == b'[' {
+                Some(rest)
+            } else {
+                None
+            }
+        }
+    }
+}
+
+// The rest after one or two colours.
+fn past_colours(text: &[u8]) -> Option<&[u8]>
+    ensures value { option_map (λ rest. rest.now) result ≡ past_colours text.now }
+    ensures shorter { IfSome result (λ rest. length rest.now ≤ length text.now) }
+{
+    let Some(rest) = past_colour(text) else {
+        return None;
+    };
+    match past_colour(rest) {
+        Some(more) => Some(more),
+        None => Some(rest),
+    }
+}
+
+// The rest after a colour.
+fn past_colour(text: &[u8]) -> Option<&[u8]>
+    ensures value { option_map (λ rest. rest.now) result ≡ past_colour text.now }
+    ensures shorter { IfSome result (λ rest. length rest.now ≤ length text.now) }
+{
+    let Some(rest) = after_mark(0x1B, text) else {
+        return None;
+    };
+    let Some(rest) = after_mark(b'[', rest) else {
+        return None;
+    };
+    colour_end(rest)
+}
+
+// The rest after the numbers of a colour.
+#[tactic(auto, unfolding(crate::specs::Places::colour_end))]
+fn colour_end(text: &[u8]) -> Option<&[u8]>
+    ensures value { option_map (λ rest. rest.now) result ≡ colour_end text.now }
+    ensures shorter { IfSome result (λ rest. length rest.now ≤ length text.now) }
+{
+    let Some((first, rest)) = text.split_first() else {
+        return None;
+    };
+    if *first == b'm' {
+        return Some(rest);
+    }
+    if first.is_ascii_digit() || *first == b';' {
+        colour_end(rest)
+    } else {
+        None
     }
 }
 

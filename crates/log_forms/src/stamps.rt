@@ -10,7 +10,7 @@ ghost use Rattle.log_forms.specs.Stamps.{longest_front};
 
 use crate::ends::{is_apart, opens_bracket};
 use crate::form::Form;
-use crate::instants::{Assumed, instant_of_parts, is_whole};
+use crate::instants::{Assumed, instant_of_parts};
 use crate::places::{Place, text_at};
 use format_descriptions::{Item, Parts, ValueRefusal, parse_front, parse_front_into};
 use utc_times::UtcDateTime;
@@ -44,9 +44,9 @@ pub enum StampRefusal {
 }
 
 /// The stamp that a line has in a form, at a place. The text is the one of [`Place::After`], and
-/// the name of [`Place::Json`]. A stamp ends within the first 1,000 bytes of the line, before a
-/// byte that cannot continue it. A stamp without an offset is not followed by one, nor by a word
-/// for a time zone.
+/// the name of [`Place::Json`]. A stamp ends within the first 1,000 bytes of the line, where its
+/// last word ends. No offset, time zone or half of the day follows a stamp without an offset. No
+/// year follows a stamp without a year.
 ///
 /// Fails with `Absent` if there is none. Fails with `Part` for the first part that is missing or
 /// out of its range.
@@ -120,20 +120,10 @@ fn stamp_in(
     match read_counted(form, text, &mut parts) {
         Some(rest) => {
             let length = text.len() - rest.len();
-            let behind = behind(length, text);
-            ended_stamp(assumed, &parts, count - text.len(), length, behind)
+            ended_stamp(assumed, &parts, count - text.len(), length, text)
         }
         None => Err(StampRefusal::Absent),
     }
-}
-
-// A text without this many bytes in front.
-#[inline(always)]
-fn behind(count: usize, text: &[u8]) -> &[u8]
-    requires { count ≤ length text.now }
-    ensures { result.now ≡ drop count text.now }
-{
-    &text[count..]
 }
 
 // Reads a text into no parts if it has as many digits as the form counts, and returns what follows.
@@ -256,7 +246,7 @@ fn ahead_of(form: &Form) -> &[Item]
 }
 
 // The number of digits at the front of a text.
-fn digit_count(text: &[u8]) -> usize
+pub(crate) fn digit_count(text: &[u8]) -> usize
     ensures value { result ≡ length (take_while is_ascii_digit text.now) }
     ensures at_most { result ≤ length text.now }
 {
@@ -266,27 +256,28 @@ fn digit_count(text: &[u8]) -> usize
     }
 }
 
-// The stamp of these parts, with this many bytes before it and in it, if it ends before the rest.
+// The stamp of these parts, of which a text begins with this many bytes, if it ends before the rest.
 fn ended_stamp(
     assumed: &Assumed,
     parts: &Parts,
     start: usize,
-    length: usize,
-    rest: &[u8],
+    size: usize,
+    text: &[u8],
 ) -> Result<Stamp, StampRefusal>
-    requires { start + length ≤ 1_024 }
-    ensures stamp { result ≡ ended_stamp assumed.now parts.now start length rest.now }
-    ensures within { IfOk result (λ stamp. stamp.start + stamp.length ≤ start + length) }
+    requires within { size ≤ length text.now }
+    requires short { start + size ≤ 1_024 }
+    ensures stamp { result ≡ ended_stamp assumed.now parts.now start size text.now }
+    ensures within { IfOk result (λ stamp. stamp.start + stamp.length ≤ start + size) }
 {
-    let is_ended = is_apart(is_whole(parts), parts.nanosecond.is_some(), rest);
-    if start + length > LONGEST_STAMP || !is_ended {
+    let (stamp, rest) = (&text[..size], &text[size..]);
+    if start + size > LONGEST_STAMP || !is_apart(parts, stamp, rest) {
         return Err(StampRefusal::Absent);
     }
     match instant_of_parts(assumed, parts) {
         Ok(instant) => Ok(Stamp {
             instant,
             start,
-            length,
+            length: size,
             is_zoned: opens_bracket(rest),
         }),
         Err(refusal) => Err(StampRefusal::Part(refusal)),

@@ -30,11 +30,19 @@ const HOUR: Item = Item::Part(Component::Hour(Padding::Zero));
 
 const SPACED_HOUR: Item = Item::Part(Component::Hour(Padding::Space));
 
+const BARE_HOUR: Item = Item::Part(Component::Hour(Padding::Bare));
+
 const MINUTE: Item = Item::Part(Component::Minute(Padding::Zero));
 
 const SECOND: Item = Item::Part(Component::Second(Padding::Zero));
 
 const FRACTION: Item = Item::Part(Component::Subsecond(SubsecondDigits::OneOrMore));
+
+const THREE_DIGITS: Item = Item::Part(Component::Subsecond(SubsecondDigits::Three));
+
+const SIX_DIGITS: Item = Item::Part(Component::Subsecond(SubsecondDigits::Six));
+
+const NINE_DIGITS: Item = Item::Part(Component::Subsecond(SubsecondDigits::Nine));
 
 const OFFSET_HOUR: Item = Item::Part(Component::OffsetHour(Sign::Mandatory, Padding::Zero));
 
@@ -364,7 +372,7 @@ pub(crate) const HAPROXY: [Item; 14] = [
 ];
 
 /// As `2024/02/29 12:00:00`.
-pub(crate) const NGINX_ERROR: [Item; 17] = [
+pub(crate) const NGINX_ERROR: [Item; 23] = [
     YEAR,
     Item::Byte(b'/'),
     MONTH,
@@ -376,16 +384,22 @@ pub(crate) const NGINX_ERROR: [Item; 17] = [
     MINUTE,
     Item::Byte(b':'),
     SECOND,
-    Item::Optional(5),
-    Item::First(1),
+    Item::Optional(11),
+    Item::First(2),
     Item::Byte(b'.'),
-    Item::Or(1),
-    Item::Byte(b','),
     FRACTION,
+    Item::Or(7),
+    Item::Byte(b','),
+    Item::First(1),
+    NINE_DIGITS,
+    Item::Or(1),
+    SIX_DIGITS,
+    Item::Or(1),
+    THREE_DIGITS,
 ];
 
 /// As `2024-02-29 12:00:00,123`.
-pub(crate) const LOCAL_COMMA: [Item; 18] = [
+pub(crate) const LOCAL_COMMA: [Item; 23] = [
     YEAR,
     Item::Byte(b'-'),
     MONTH,
@@ -403,11 +417,16 @@ pub(crate) const LOCAL_COMMA: [Item; 18] = [
     Item::Byte(b':'),
     SECOND,
     Item::Byte(b','),
-    FRACTION,
+    Item::First(1),
+    NINE_DIGITS,
+    Item::Or(1),
+    SIX_DIGITS,
+    Item::Or(1),
+    THREE_DIGITS,
 ];
 
 /// As `2024-02-29 12:00:00.123`.
-pub(crate) const LOCAL: [Item; 19] = [
+pub(crate) const LOCAL: [Item; 24] = [
     YEAR,
     Item::Byte(b'-'),
     MONTH,
@@ -419,7 +438,12 @@ pub(crate) const LOCAL: [Item; 19] = [
     Item::Byte(b't'),
     Item::Or(1),
     Item::Byte(b' '),
-    HOUR,
+    Item::Or(1),
+    Item::Byte(b'\t'),
+    Item::First(1),
+    SPACED_HOUR,
+    Item::Or(1),
+    BARE_HOUR,
     Item::Byte(b':'),
     MINUTE,
     Item::Byte(b':'),
@@ -430,7 +454,7 @@ pub(crate) const LOCAL: [Item; 19] = [
 ];
 
 /// As `2024-02-29  12:00:00`.
-pub(crate) const TWO_SPACES: [Item; 18] = [
+pub(crate) const TWO_SPACES: [Item; 24] = [
     YEAR,
     Item::Byte(b'-'),
     MONTH,
@@ -443,12 +467,18 @@ pub(crate) const TWO_SPACES: [Item; 18] = [
     MINUTE,
     Item::Byte(b':'),
     SECOND,
-    Item::Optional(5),
-    Item::First(1),
+    Item::Optional(11),
+    Item::First(2),
     Item::Byte(b'.'),
-    Item::Or(1),
-    Item::Byte(b','),
     FRACTION,
+    Item::Or(7),
+    Item::Byte(b','),
+    Item::First(1),
+    NINE_DIGITS,
+    Item::Or(1),
+    SIX_DIGITS,
+    Item::Or(1),
+    THREE_DIGITS,
 ];
 
 /// As `Thu Feb 29 12:00:00.123456 2024`.
@@ -597,6 +627,270 @@ pub(crate) const ANDROID: [Item; 12] = [
     FRACTION,
 ];
 
+/// As `Feb 29 12:00:00 2024`.
+pub(crate) const SYSLOG_YEAR: [Item; 17] = [
+    MONTH_NAME,
+    Item::Byte(b' '),
+    Item::First(1),
+    SPACED_DAY,
+    Item::Or(1),
+    BARE_DAY,
+    Item::Byte(b' '),
+    HOUR,
+    Item::Byte(b':'),
+    MINUTE,
+    Item::Byte(b':'),
+    SECOND,
+    Item::Optional(2),
+    Item::Byte(b'.'),
+    FRACTION,
+    Item::Byte(b' '),
+    YEAR,
+];
+
+/// As `29/Feb/2024:12:00:00.123456 +0530`.
+pub(crate) const MODSECURITY: [Item; 16] = [
+    DAY,
+    Item::Byte(b'/'),
+    MONTH_NAME,
+    Item::Byte(b'/'),
+    YEAR,
+    Item::Byte(b':'),
+    HOUR,
+    Item::Byte(b':'),
+    MINUTE,
+    Item::Byte(b':'),
+    SECOND,
+    Item::Byte(b'.'),
+    FRACTION,
+    Item::Byte(b' '),
+    OFFSET_HOUR,
+    OFFSET_MINUTE,
+];
+
+/// As `29-Feb-2024 12:00:00 UTC`.
+pub(crate) const PHP: [Item; 13] = [
+    DAY,
+    Item::Byte(b'-'),
+    MONTH_NAME,
+    Item::Byte(b'-'),
+    YEAR,
+    Item::Byte(b' '),
+    HOUR,
+    Item::Byte(b':'),
+    MINUTE,
+    Item::Byte(b':'),
+    SECOND,
+    Item::Byte(b' '),
+    UTC_WORD,
+];
+
+/// As `2024-02-29 12:00:00.123 -03`.
+pub(crate) const HOUR_OFFSET: [Item; 20] = [
+    YEAR,
+    Item::Byte(b'-'),
+    MONTH,
+    Item::Byte(b'-'),
+    DAY,
+    Item::First(1),
+    Item::Byte(b'T'),
+    Item::Or(1),
+    Item::Byte(b' '),
+    HOUR,
+    Item::Byte(b':'),
+    MINUTE,
+    Item::Byte(b':'),
+    SECOND,
+    Item::Optional(2),
+    Item::Byte(b'.'),
+    FRACTION,
+    Item::Optional(1),
+    Item::Byte(b' '),
+    OFFSET_HOUR,
+];
+
+/// As `*Feb 29 12:00:00.123 UTC`.
+pub(crate) const CISCO_UTC: [Item; 17] = [
+    MONTH_NAME,
+    Item::Byte(b' '),
+    Item::First(1),
+    SPACED_DAY,
+    Item::Or(1),
+    BARE_DAY,
+    Item::Byte(b' '),
+    HOUR,
+    Item::Byte(b':'),
+    MINUTE,
+    Item::Byte(b':'),
+    SECOND,
+    Item::Optional(2),
+    Item::Byte(b'.'),
+    FRACTION,
+    Item::Byte(b' '),
+    UTC_WORD,
+];
+
+/// As `*Feb 29 12:00:00.123`.
+pub(crate) const CISCO: [Item; 15] = [
+    MONTH_NAME,
+    Item::Byte(b' '),
+    Item::First(1),
+    SPACED_DAY,
+    Item::Or(1),
+    BARE_DAY,
+    Item::Byte(b' '),
+    HOUR,
+    Item::Byte(b':'),
+    MINUTE,
+    Item::Byte(b':'),
+    SECOND,
+    Item::Optional(2),
+    Item::Byte(b'.'),
+    FRACTION,
+];
+
+/// As `Feb 29 2024 12:00:00`.
+pub(crate) const ASA: [Item; 17] = [
+    MONTH_NAME,
+    Item::Byte(b' '),
+    Item::First(1),
+    SPACED_DAY,
+    Item::Or(1),
+    BARE_DAY,
+    Item::Byte(b' '),
+    YEAR,
+    Item::Byte(b' '),
+    HOUR,
+    Item::Byte(b':'),
+    MINUTE,
+    Item::Byte(b':'),
+    SECOND,
+    Item::Optional(2),
+    Item::Byte(b'.'),
+    FRACTION,
+];
+
+/// As `2024 Feb 29 12:00:00`.
+pub(crate) const NXOS: [Item; 17] = [
+    YEAR,
+    Item::Byte(b' '),
+    MONTH_NAME,
+    Item::Byte(b' '),
+    Item::First(1),
+    SPACED_DAY,
+    Item::Or(1),
+    BARE_DAY,
+    Item::Byte(b' '),
+    HOUR,
+    Item::Byte(b':'),
+    MINUTE,
+    Item::Byte(b':'),
+    SECOND,
+    Item::Optional(2),
+    Item::Byte(b'.'),
+    FRACTION,
+];
+
+/// As `29/Feb/2024 12:00:00`.
+pub(crate) const DJANGO: [Item; 11] = [
+    DAY,
+    Item::Byte(b'/'),
+    MONTH_NAME,
+    Item::Byte(b'/'),
+    YEAR,
+    Item::Byte(b' '),
+    HOUR,
+    Item::Byte(b':'),
+    MINUTE,
+    Item::Byte(b':'),
+    SECOND,
+];
+
+/// As `02-29-2024 12:00:00.123 +0530`.
+pub(crate) const SPLUNK: [Item; 16] = [
+    MONTH,
+    Item::Byte(b'-'),
+    DAY,
+    Item::Byte(b'-'),
+    YEAR,
+    Item::Byte(b' '),
+    HOUR,
+    Item::Byte(b':'),
+    MINUTE,
+    Item::Byte(b':'),
+    SECOND,
+    Item::Byte(b'.'),
+    FRACTION,
+    Item::Byte(b' '),
+    OFFSET_HOUR,
+    OFFSET_MINUTE,
+];
+
+/// As `2024.02.29 12:00:00.123456`.
+pub(crate) const CLICKHOUSE: [Item; 14] = [
+    YEAR,
+    Item::Byte(b'.'),
+    MONTH,
+    Item::Byte(b'.'),
+    DAY,
+    Item::Byte(b' '),
+    HOUR,
+    Item::Byte(b':'),
+    MINUTE,
+    Item::Byte(b':'),
+    SECOND,
+    Item::Optional(2),
+    Item::Byte(b'.'),
+    FRACTION,
+];
+
+/// As `02/29/2024-12:00:00.123456`.
+pub(crate) const SURICATA: [Item; 13] = [
+    MONTH,
+    Item::Byte(b'/'),
+    DAY,
+    Item::Byte(b'/'),
+    YEAR,
+    Item::Byte(b'-'),
+    HOUR,
+    Item::Byte(b':'),
+    MINUTE,
+    Item::Byte(b':'),
+    SECOND,
+    Item::Byte(b'.'),
+    FRACTION,
+];
+
+/// As `29 Feb 12:00:00.123`.
+pub(crate) const REDIS_2_8: [Item; 11] = [
+    DAY,
+    Item::Byte(b' '),
+    MONTH_NAME,
+    Item::Byte(b' '),
+    HOUR,
+    Item::Byte(b':'),
+    MINUTE,
+    Item::Byte(b':'),
+    SECOND,
+    Item::Byte(b'.'),
+    FRACTION,
+];
+
+/// As `I20240229 12:00:00.123456`.
+pub(crate) const GLOG: [Item; 11] = [
+    YEAR,
+    MONTH,
+    DAY,
+    Item::Byte(b' '),
+    HOUR,
+    Item::Byte(b':'),
+    MINUTE,
+    Item::Byte(b':'),
+    SECOND,
+    Item::Byte(b'.'),
+    FRACTION,
+];
+
 /// As `1709188200.123`.
 pub(crate) const UNIX: [Item; 4] = [UNIX_SECOND, Item::Optional(2), Item::Byte(b'.'), FRACTION];
 
@@ -674,4 +968,21 @@ pub(crate) const KLOG_LEAD: [Item; 8] = [
     Item::Byte(b'E'),
     Item::Or(1),
     Item::Byte(b'F'),
+];
+
+/// The items before a stamp, as in `*Feb 29 12:00:00.123`.
+pub(crate) const CISCO_LEAD: [Item; 4] = [
+    Item::First(1),
+    Item::Byte(b'*'),
+    Item::Or(1),
+    Item::Byte(b'.'),
+];
+
+/// The items before a stamp, as in `*Feb 29 12:00:00.123 UTC`, if there are any.
+pub(crate) const CISCO_UTC_LEAD: [Item; 5] = [
+    Item::Optional(4),
+    Item::First(1),
+    Item::Byte(b'*'),
+    Item::Or(1),
+    Item::Byte(b'.'),
 ];

@@ -21,8 +21,6 @@ mod field_spans;
 mod formats;
 mod fronts;
 mod full_times;
-#[cfg(test)]
-mod group_tests;
 mod inside_moments;
 mod laws;
 mod leap_texts;
@@ -46,8 +44,6 @@ mod second_batches;
 mod status_texts;
 mod storage;
 mod subsecond_batches;
-#[cfg(test)]
-mod tests;
 mod text_batches;
 mod text_blocks;
 mod texts;

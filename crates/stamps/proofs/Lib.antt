@@ -1,9 +1,11 @@
+pub mod AheadLemmas
 pub mod BlockLemmas
 pub mod BoundLawLemmas
 pub mod BucketProofLemmas
 pub mod CheckLawLemmas
 pub mod CutLawLemmas
 pub mod FrontLemmas
+pub mod GapLawLemmas
 pub mod LineLawLemmas
 pub mod LongLineLemmas
 pub mod PartLemmas
@@ -13,7 +15,9 @@ pub mod RunLemmas
 pub mod StampLawLemmas
 pub mod StepLemmas
 pub mod StyleLemmas
+pub mod TallyLemmas
 pub mod TurnLemmas
 pub mod UsageLawLemmas
 pub mod UtcLawLemmas
+pub mod ValueLawLemmas
 pub mod WrittenLawLemmas

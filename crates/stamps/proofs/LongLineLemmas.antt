@@ -7,7 +7,8 @@ use Rattle.std.specs.Result.{result_map_both}
 use Rattle.std.proofs.lemmas.Bool.{cases_Bool}
 use Rattle.std.proofs.lemmas.Bool.Decides.{Decides-eqb, nat_tests}
 use Rattle.std.proofs.lemmas.List.{length-drop, length-take, take_all, take-append-le, drop-append-le}
-use Rattle.std.proofs.lemmas.Bool.{and_parts}
+use Rattle.std.proofs.lemmas.Bool.{and_parts, false≢true}
+use Rattle.std.proofs.lemmas.Option.{slice_get_within}
 use Rattle.std.proofs.lemmas.Slice.Eq.{starts_is}
 use Rattle.std.specs.Cmp.Lexicographic.{pointwise}
 use Rattle.std.specs.List.{starts_with}
@@ -19,18 +20,20 @@ use Rattle.rfc3339.specs.declared.refusal.TextRefusal.{TextRefusal}
 use Rattle.rfc3339.specs.declared.refusal.TextRefusal.TheVariants.{Syntax}
 use Rattle.rfc3339.specs.declared.refusal.TextRefusal.TheVariants as text
 use Rattle.stamps.specs.Decisions.{as_it_is, with_text, rewritten, is_earlier, stop_if, check_line, gap_after, gap_line, going_on, cause_of, is_first, as_note}
-use Rattle.stamps.specs.Decisions.{decision_by, decision_of, state_by, state_after}
+use Rattle.stamps.specs.Decisions.{decision_by, decision_of, line_kind, state_by, state_after}
 use Rattle.stamps.specs.LineStamps.{byte_order_mark, ends, front_stamp, has_mark, longest_head, mark_length, stamp, stamp_of}
+use Rattle.line_devices.specs.declared.stamp_tallies.LineKind.{LineKind}
 use Rattle.log_forms.specs.WithinLemmas.{stamp_at-longer, stamp_at-within}
 use Rattle.log_forms.specs.WithinLemmas as forms
 use Rattle.log_forms.specs.Years.{assumed_after}
+use Rattle.log_forms.specs.declared.places.Place.{Place}
 use Rattle.log_forms.specs.declared.stamps.Stamp as formed
 use Rattle.log_forms.specs.declared.stamps.StampRefusal.{StampRefusal}
 use Rattle.log_forms.specs.declared.stamps.StampRefusal.TheVariants as form
 use Rattle.stamps.specs.Notes.{note_text}
 use Rattle.stamps.specs.Progress.{to_send, progress_of}
 use Rattle.stamps.specs.Runs.{Run, run, then_on, output_of, line_feed, known_after, known_at_end, line_run, last_run}
-use Rattle.stamps.specs.Styles.{text_in}
+use Rattle.stamps.specs.StampTexts.{stamp_text}
 use Rattle.stamps.specs.declared.decide.Decision.{Decision}
 use Rattle.stamps.specs.declared.decide.Decision.TheVariants.{Keep, Skip, Stop, Tell}
 use Rattle.stamps.specs.declared.decide.Stamp.{Stamp}
@@ -40,12 +43,15 @@ use Rattle.stamps.specs.declared.finding.Cause.TheVariants.{Missing, NoText, Ear
 use Rattle.stamps.specs.declared.finding.Finding.{Finding}
 use Rattle.stamps.specs.declared.finding.Finding.TheVariants.{Line}
 use Rattle.stamps.specs.declared.notes.Note.TheVariants.{Gap}
-use Rattle.stamps.specs.Readers.{form_stamp, formed_at, line_stamp, plain_at, stamp_behind}
+use Rattle.stamps.specs.LineInstantLemmas.{formed_at-longer}
+use Rattle.stamps.specs.Readers.{form_stamp, formed_at, in_line, is_json, is_quote, json_kind, line_stamp, plain_at, stamp_behind, value_kind}
 use Rattle.stamps.specs.declared.readers.LineRefusal.{LineRefusal}
 use Rattle.stamps.specs.declared.readers.LineRefusal.TheVariants.{Absent, OutOfRange, Part}
 use Rattle.stamps.specs.declared.readers.LineStamp.{LineStamp}
 use Rattle.stamps.specs.declared.readers.Reader.{Reader}
 use Rattle.stamps.specs.declared.readers.Reader.TheVariants.{Plain, Formed}
+use Rattle.stamps.specs.declared.readers.ValueKind.{ValueKind}
+use Rattle.stamps.specs.declared.readers.ValueKind.TheVariants.{Number, Quoted, Other}
 use Rattle.stamps.specs.declared.task.Action.{Action}
 use Rattle.stamps.specs.declared.task.Action.TheVariants.{Write, Check, CheckAll, Gaps, Since, Until}
 use Rattle.stamps.specs.declared.task.Style.{Style}
@@ -128,18 +134,63 @@ plain-within before line (Ok stamp) low h = omega (arith, low, h, length-drop be
 plain-within before line (Err Syntax) low h = tt
 plain-within before line (Err (text.OutOfRange component)) low h = tt
 
-formed-within : (before : ℕ) (line : List ℕ) (r : Result formed.Stamp StampRefusal) → before ≤ length line
-    → forms.StampWithin r (length (drop before line)) → LineStampWithin (formed_at before r) (length line)
-formed-within before line (Ok stamp) low h = omega (arith, low, h, length-drop before line)
-formed-within before line (Err form.Absent) low h = tt
-formed-within before line (Err (form.Part refusal)) low h = tt
+-- the bytes of a value that is a text stand in the line with its quotes
+abbrev KindWithin : ValueKind → formed.Stamp → ℕ → Type 0
+KindWithin Number stamp most = ⊤
+KindWithin Quoted stamp most = (1 ≤ stamp.start) × (stamp.start + stamp.length < most)
+KindWithin Other stamp most = ⊤
+
+quote_within : (text : List ℕ) (place : ℕ) (o : Option ℕ) → slice_get text place ≡ o → is_quote o ≡ true → place < length text
+quote_within text place None e h = absurd (false≢true h)
+quote_within text place (Some byte) e h = slice_get_within text place byte e
+
+json_kind-within : (line : List ℕ) (stamp : formed.Stamp) → KindWithin (json_kind (take 1024 line) stamp) stamp (length line)
+json_kind-within line stamp =
+    let front = take 1024 line in
+    let behind = stamp.start + stamp.length in
+    elim (cases_Bool (nat_eq stamp.start 0)) [
+      | inl t ↦ rw t tt
+      | inr t ↦
+          elim (cases_Bool (is_quote (slice_get front (stamp.start - 1)))) [
+            | inl u ↦
+                elim (cases_Bool (is_quote (slice_get front behind))) [
+                  | inl v ↦
+                      let some : 1 ≤ stamp.start = grind (arith, nat_tests) in
+                      let low = quote_within front behind (slice_get front behind) refl v in
+                      rw (t, u, v) (some, omega (arith, low, length-take 1024 line))
+                  | inr v ↦ rw (t, u, v) tt
+                ]
+            | inr u ↦ rw (t, u) tt
+          ]
+    ]
+
+value_kind-within : (place : Place) (line : List ℕ) (stamp : formed.Stamp) → KindWithin (value_kind place line stamp) stamp (length line)
+value_kind-within place line stamp = either (is_json place) where
+  either : (b : Bool) → KindWithin (cond b (json_kind (take 1024 line) stamp) Other) stamp (length line)
+  either true = json_kind-within line stamp
+  either false = tt
+
+in_line-within : (before count most : ℕ) (kind : ValueKind) (stamp : formed.Stamp) → KindWithin kind stamp count → stamp.start + stamp.length ≤ count
+    → before + count ≤ most → LineStampWithin (Ok (in_line before kind stamp)) most
+in_line-within before count most Number stamp k h low = omega (arith, h, low)
+in_line-within before count most Quoted stamp k h low = omega (arith, k.0, k.1, low)
+in_line-within before count most Other stamp k h low = omega (arith, h, low)
+
+formed-within : (before : ℕ) (place : Place) (line : List ℕ) (r : Result formed.Stamp StampRefusal) → before ≤ length line
+    → forms.StampWithin r (length (drop before line)) → LineStampWithin (formed_at before place (drop before line) r) (length line)
+formed-within before place line (Ok stamp) low h =
+    let text = drop before line in
+    in_line-within before (length text) (length line) (value_kind place text stamp) stamp (value_kind-within place text stamp) h
+    (omega (arith, low, length-drop before line))
+formed-within before place line (Err form.Absent) low h = tt
+formed-within before place line (Err (form.Part refusal)) low h = tt
 
 behind-within : (reader : Reader) (last : Option ℤ) (before : ℕ) (line : List ℕ) → before ≤ length line
     → LineStampWithin (stamp_behind reader last before (drop before line)) (length line)
 behind-within Plain last before line low =
     plain-within before line (stamp_of (drop before line)) low (stamp_within (drop before line))
 behind-within (Formed by) last before line low =
-    formed-within before line (form_stamp by last (drop before line)) low
+    formed-within before by.place line (form_stamp by last (drop before line)) low
     (stamp_at-within by.form by.place by.text (assumed_after by.assumed last) (drop before line))
 
 line_stamp-within : (reader : Reader) (last : Option ℤ) (is_first : Bool) (line : List ℕ)
@@ -163,8 +214,8 @@ stop_or-within false found decision line h = h
 rewritten-within : (style : Style) (is_strict : Bool) (number : ℕ) (stamp : Result LineStamp LineRefusal) (line : List ℕ)
     → LineStampWithin stamp (length line) → Within (rewritten style is_strict number stamp) line
 rewritten-within style is_strict number (Ok stamp) line h =
-    stop_or-within (is_strict && stamp.is_zoned) _ (with_text is_strict number stamp (text_in style stamp.instant)) line
-    (with_text-within is_strict number stamp (text_in style stamp.instant) line h)
+    stop_or-within (is_strict && stamp.is_zoned) _ (with_text is_strict number stamp (stamp_text style stamp)) line
+    (with_text-within is_strict number stamp (stamp_text style stamp) line h)
 rewritten-within style is_strict number (Err refusal) line h = as_it_is-within is_strict number (cause_of refusal) line
 
 stop_if-within : (fails : Bool) (number : ℕ) (cause : Cause) (line : List ℕ) → Within (stop_if fails number cause) line
@@ -204,21 +255,21 @@ going_on-within : (b : Bool) (line : List ℕ) → Within (going_on b) line
 going_on-within true line = omega arith
 going_on-within false line = tt
 
-decision_by-within : (action : Action) (last : Option ℤ) (after : State) (stamp : Result LineStamp LineRefusal) (line : List ℕ)
-    → LineStampWithin stamp (length line) → Within (decision_by action last after stamp) line
-decision_by-within (Write style is_strict) last after stamp line h = rewritten-within style is_strict after.lines stamp line h
-decision_by-within (Check is_strict) last after stamp line h = check_line-within is_strict after.lines last stamp line
-decision_by-within (CheckAll is_strict) last after stamp line h =
-    as_note-within (check_line is_strict after.lines last stamp) line (check_line-within is_strict after.lines last stamp line)
-decision_by-within (Gaps limit is_strict) last after stamp line h = gap_line-within limit is_strict after.lines last stamp line
-decision_by-within (Since bound) last after stamp line h = going_on-within after.goes_on line
-decision_by-within (Until bound) last after stamp line h = going_on-within after.goes_on line
+decision_by-within : (action : Action) (before after : State) (stamp : Result LineStamp LineRefusal) (line : List ℕ)
+    → LineStampWithin stamp (length line) → Within (decision_by action before after stamp) line
+decision_by-within (Write style is_strict) before after stamp line h = rewritten-within style is_strict after.lines stamp line h
+decision_by-within (Check is_strict) before after stamp line h = check_line-within is_strict after.lines before.last stamp line
+decision_by-within (CheckAll is_strict) before after stamp line h =
+    as_note-within (check_line is_strict after.lines before.last stamp) line (check_line-within is_strict after.lines before.last stamp line)
+decision_by-within (Gaps limit is_strict) before after stamp line h = gap_line-within limit is_strict after.lines before.latest stamp line
+decision_by-within (Since bound) before after stamp line h = going_on-within after.goes_on line
+decision_by-within (Until bound) before after stamp line h = going_on-within after.goes_on line
 
 pub decision_of-within : (task : Task) (state : State) (line : List ℕ) → Within (decision_of task state line) line
 unfolding decision_of
 decision_of-within task state line =
     let stamp = line_stamp task.reader state.last (is_first state) line in
-    decision_by-within task.action state.last (state_by task.action state stamp) stamp line
+    decision_by-within task.action state (state_by task.action state (line_kind line stamp) stamp) stamp line
     (line_stamp-within task.reader state.last (is_first state) line)
 
 within_is : (decision : Decision) (start : ℕ) (text : List ℕ) (count : ℕ) (line : List ℕ) → Keep start text count ≡ decision
@@ -240,7 +291,7 @@ kept_within task state line text start count e =
 -- the decision on a line, by its stamp and the state after it
 pub decision_of-read : (task : Task) (state after : State) (line : List ℕ) (stamp : Result LineStamp LineRefusal)
     → stamp ≡ line_stamp task.reader state.last (is_first state) line → after ≡ state_after task state line
-    → decision_by task.action state.last after stamp ≡ decision_of task state line
+    → decision_by task.action state after stamp ≡ decision_of task state line
 unfolding decision_of state_after
 decision_of-read task state after line stamp e h = rw (h, e) refl
 
@@ -255,7 +306,8 @@ behind-longer : (reader : Reader) (last : Option ℤ) (before : ℕ) (text part 
     → stamp_behind reader last before (text ++ part) ≡ stamp_behind reader last before text
 behind-longer Plain last before text part long = ap (plain_at before) (stamp_of-longer text part long)
 behind-longer (Formed by) last before text part long =
-    ap (formed_at before) (stamp_at-longer by.form by.place by.text (assumed_after by.assumed last) text part long)
+    formed_at-longer before by.place text part (form_stamp by last (text ++ part)) long
+    ∙ ap (formed_at before by.place text) (stamp_at-longer by.form by.place by.text (assumed_after by.assumed last) text part long)
 
 -- the stamp is the same
 line_stamp-longer : (reader : Reader) (last : Option ℤ) (is_first : Bool) (line part : List ℕ) → longest_head ≤ length line
@@ -270,18 +322,31 @@ line_stamp-longer reader last is_first line part long =
     ∙ ap (stamp_behind reader last before) (drop-append-le before line part (omega (arith, long, short)))
     ∙ behind-longer reader last before text part most
 
+-- and so is its kind
+line_kind-longer : (line part : List ℕ) (stamp : Result LineStamp LineRefusal) → longest_head ≤ length line
+    → line_kind (line ++ part) stamp ≡ line_kind line stamp
+line_kind-longer [] part stamp long = absurd (omega (arith, long))
+line_kind-longer (byte ∷ []) part stamp long = absurd (omega (arith, long))
+line_kind-longer (byte ∷ next ∷ line) part stamp long = refl
+
 pub decision_of-longer : (task : Task) (state : State) (line part : List ℕ) → longest_head ≤ length line
     → decision_of task state (line ++ part) ≡ decision_of task state line
 unfolding decision_of
 decision_of-longer task state line part long =
-    ap (λ (s : Result LineStamp LineRefusal). decision_by task.action state.last (state_by task.action state s) s)
+    let stamp = line_stamp task.reader state.last (is_first state) line in
+    ap (λ (s : Result LineStamp LineRefusal). decision_by task.action state (state_by task.action state (line_kind (line ++ part) s) s) s)
     (line_stamp-longer task.reader state.last (is_first state) line part long)
+    ∙ ap (λ (kind : LineKind). decision_by task.action state (state_by task.action state kind stamp) stamp)
+    (line_kind-longer line part stamp long)
 
 pub state_after-longer : (task : Task) (state : State) (line part : List ℕ) → longest_head ≤ length line
     → state_after task state (line ++ part) ≡ state_after task state line
 unfolding state_after
 state_after-longer task state line part long =
-    ap (state_by task.action state) (line_stamp-longer task.reader state.last (is_first state) line part long)
+    let stamp = line_stamp task.reader state.last (is_first state) line in
+    ap (λ (s : Result LineStamp LineRefusal). state_by task.action state (line_kind (line ++ part) s) s)
+    (line_stamp-longer task.reader state.last (is_first state) line part long)
+    ∙ ap (λ (kind : LineKind). state_by task.action state kind stamp) (line_kind-longer line part stamp long)
 
 output_of-more : (decision : Decision) (line part : List ℕ) → Within decision line
     → output_of decision (line ++ part) ≡ output_of decision line ++ to_send (progress_of decision) part

@@ -30,6 +30,7 @@ use Rattle.stamps.specs.declared.lines.Progress.TheVariants.{Skipped}
 use Rattle.stamps.specs.declared.task.Task.{Task}
 use Rattle.stamps.proofs.LongLineLemmas.{Continues, continues_long, last_run-some, decision_of-longer, state_after-longer, output_of-longer}
 use Rattle.stamps.proofs.RunLemmas.{run_from, then_on-text, input_run-known, lines_run-line_feed}
+use Rattle.stamps.proofs.TallyLemmas.{input_tally}
 
 -- ---- bytes of which none is a line feed
 
@@ -298,11 +299,11 @@ all_written task base b c pending work taken settled written =
     )
 
 pub completed : (task : Task) (base b c : Option (List ℕ)) (pending : List ℕ) (work : Work) (taken : List ℕ)
-    → Settled task base b pending work taken → Appends b c pending → finding_at_end task work.state ≡ None → Completes task base c taken
+    → Settled task base b pending work taken → Appends b c pending → finding_at_end task work.state ≡ None → Completes task base c work taken
 completed task base b c pending work taken settled written none =
     let all = all_written task base b c pending work taken settled written in
     let end = all.1 ∙ ap (λ (z : Option Finding). known_unless z work.state) none in
-    record { written = all.0; well = subst (λ (z : Result State Finding). IsOk z) (sym end) refl }
+    record { written = all.0; well = subst (λ (z : Result State Finding). IsOk z) (sym end) refl; tally = input_tally task taken work.state end }
 
 -- the end of the input ends the run
 pub found_at_end : (task : Task) (base b c : Option (List ℕ)) (pending : List ℕ) (work : Work) (taken : List ℕ) (found : Finding)

@@ -6,6 +6,7 @@ use Rattle.std.specs.Prelude.{IfSome, IsErrAnd}
 use Rattle.line_devices.specs.Device.{Devices}
 use Rattle.line_devices.specs.InputLemmas.{Consumes-nil, Consumes-append, Consumes-keep, input-end, input-begin, input-none_left, input-long}
 use Rattle.line_devices.specs.InputLemmas.{turns-more}
+use Rattle.line_devices.specs.declared.stamp_tallies.StampTally.{StampTally}
 use Rattle.stamps.specs.Decisions.{first_state}
 use Rattle.stamps.specs.Faults.{stamp_fault, FoundIn}
 use Rattle.stamps.specs.Progress.{Completes, Ends, Stands, mark_after}
@@ -67,13 +68,14 @@ block_taken task first old now pending pending' work work' taken block h read st
 }
 
 -- all of the input was taken in
-pub input_ends : (task : Task) (first old now : Devices) (pending : List ℕ) (work : Work) (taken : List ℕ) → GoesOn task first old pending work taken
-    → Consumes old.left now.left [] → IsAtEnd now.left → Completes task first.written now.written taken → now.read_failed ≡ old.read_failed
-    → now.write_failed ≡ old.write_failed → EndsWell task first now
-input_ends task first old now pending work taken h none end completes r w = record {
+pub input_ends : (task : Task) (first old now : Devices) (pending : List ℕ) (work after : Work) (taken : List ℕ) → GoesOn task first old pending work taken
+    → Consumes old.left now.left [] → IsAtEnd now.left → Completes task first.written now.written after taken → now.read_failed ≡ old.read_failed
+    → now.write_failed ≡ old.write_failed → EndsWell task first now after
+input_ends task first old now pending work after taken h none end completes r w = record {
   none_left = input-none_left first.left old.left now.left taken h.consumed none end;
   written = input-end first.left old.left now.left taken _ h.consumed none end completes.written;
   well = input-end first.left old.left now.left taken _ h.consumed none end completes.well;
+  tally = input-end first.left old.left now.left taken _ h.consumed none end completes.tally;
   no_read_failed = r ∙ h.no_read_failed;
   no_write_failed = w ∙ h.no_write_failed;
 }
@@ -132,11 +134,11 @@ Turns-longer task first now pending work taken (suc more) some turns = turns
 
 -- a turn that took none
 pub Turns-end : (task : Task) (first now : Devices) (pending : List ℕ) (work : Work) (taken : List ℕ) (count : ℕ) → count ≡ 0
-    → Turns (Ok count) task first now pending work taken → EndsWell task first now
+    → Turns (Ok count) task first now pending work taken → EndsWell task first now work
 Turns-end task first now pending work taken count e turns = rw e at turns
 
 -- what holds where a fault ended the work
-pub Stops-by : (task : Task) (first now : Devices) (result : Result Unit StampFault) (fault ended : StampFault) → IsErrAnd result (λ made. made ≡ fault)
+pub Stops-by : (task : Task) (first now : Devices) (result : Result StampTally StampFault) (fault ended : StampFault) → IsErrAnd result (λ made. made ≡ fault)
     → Stops task fault first now → result ≡ Err ended → Stops task ended first now
 Stops-by task first now (Ok done) fault ended made stops is = absurd made
 Stops-by task first now (Err by) fault ended made stops is =

@@ -13,9 +13,10 @@ use Rattle.stamps.specs.Arguments.{only_instant, asked_alone, at_offset as offse
 use Rattle.stamps.specs.Arguments.{check_task, clock, count_at, count_at_read, count_by, count_read, count_request, gaps_read, gaps_task, is_finer, limit_of}
 use Rattle.stamps.specs.Arguments.{request_of, starts_all, starts_at, strictness, task_asked, unit_of}
 use Rattle.stamps.specs.Durations.{duration_of}
-use Rattle.stamps.specs.Usage.{BoundWord, CountWords, FrontWords, IsBound, MisuseWords, RequestWords, StrictWords, first_words}
+use Rattle.stamps.specs.Usage.{BoundWord, ClockWords, CountWords, FrontWords, IsBound, MisuseWords, RequestWords, StrictWords, first_words}
 use Rattle.stamps.specs.Usage.BoundWord.{since, until}
-use Rattle.stamps.specs.Usage.CountWords.{in_utc, at_offset}
+use Rattle.stamps.specs.Usage.ClockWords.{in_utc, at_offset}
+use Rattle.stamps.specs.Usage.CountWords.{some_rows, all_rows}
 use Rattle.stamps.specs.Usage.FrontWords.{utc, unix, at, check, check_all, gaps}
 use Rattle.stamps.specs.Usage.MisuseWords.{no_word, unknown_word, no_offset, offset, no_unit, unit, no_count_offset, count_offset}
 use Rattle.stamps.specs.Usage.MisuseWords.{no_duration, duration, no_instant, instant, too_fine, after_help, after_version, after_count}
@@ -246,22 +247,31 @@ by_merge words [] h = asked (merge h (lenient refl))
 by_merge words (flag ∷ []) h = by_merge_flag words flag (bytes_eq flag (codes "--strict")) h refl
 by_merge words (flag ∷ word ∷ more) h = misused (after_merge h (λ (same : flag ∷ word ∷ more ≡ codes "--strict" ∷ []). absurd cc))
 
-by_count_flag : (words : List (List ℕ)) (by : Clock) (flag : List ℕ) (b : Bool) → CountWords words (flag ∷ []) by → bytes_eq flag (codes "--strict") ≡ b
-    → Outcome words (result_map_both (Count by) (λ misuse. misuse) (if b then Ok true else Err Extra))
-by_count_flag words by flag true h e = asked (count h (strict (same_first flag (codes "--strict") [] e)))
-by_count_flag words by flag false h e =
+by_count_flag : (words : List (List ℕ)) (by : Clock) (all : Bool) (flag : List ℕ) (b : Bool) → CountWords words (flag ∷ []) by all
+    → bytes_eq flag (codes "--strict") ≡ b → Outcome words (result_map_both (Count by all) (λ misuse. misuse) (if b then Ok true else Err Extra))
+by_count_flag words by all flag true h e = asked (count h (strict (same_first flag (codes "--strict") [] e)))
+by_count_flag words by all flag false h e =
     misused (after_count h (λ (same : flag ∷ [] ≡ codes "--strict" ∷ []). other_word flag (codes "--strict") e (same_only flag (codes "--strict") same)))
 
-by_count_strictness : (words more : List (List ℕ)) (by : Clock) → CountWords words more by
-    → Outcome words (result_map_both (Count by) (λ misuse. misuse) (strictness more))
-by_count_strictness words [] by h = asked (count h (lenient refl))
-by_count_strictness words (flag ∷ []) by h = by_count_flag words by flag (bytes_eq flag (codes "--strict")) h refl
-by_count_strictness words (flag ∷ word ∷ more) by h = misused (after_count h (λ (same : flag ∷ word ∷ more ≡ codes "--strict" ∷ []). absurd cc))
+by_count_strictness : (words more : List (List ℕ)) (by : Clock) (all : Bool) → CountWords words more by all
+    → Outcome words (result_map_both (Count by all) (λ misuse. misuse) (strictness more))
+by_count_strictness words [] by all h = asked (count h (lenient refl))
+by_count_strictness words (flag ∷ []) by all h = by_count_flag words by all flag (bytes_eq flag (codes "--strict")) h refl
+by_count_strictness words (flag ∷ word ∷ more) by all h = misused (after_count h (λ (same : flag ∷ word ∷ more ≡ codes "--strict" ∷ []). absurd cc))
+
+by_count_all : (words more : List (List ℕ)) (by : Clock) (all : Bool) → ClockWords words more by → starts_all more ≡ all
+    → Outcome words (if all then result_map_both (Count by true) (λ misuse. misuse) (strictness (drop 1 more))
+    else result_map_both (Count by false) (λ misuse. misuse) (strictness more))
+by_count_all words [] by true h e = absurd cc
+by_count_all words (flag ∷ more) by true h e =
+    by_count_strictness words more by true
+    (all_rows (subst (λ (z : List ℕ). ClockWords words (z ∷ more) by) (same_word flag (codes "--all") e) h))
+by_count_all words more by false h e = by_count_strictness words more by false (some_rows h e)
 
 by_count_offset : (words : List (List ℕ)) (text written : List ℕ) (more : List (List ℕ)) (named : units.Unit) (read : Result ℤ TextRefusal)
     → words ≡ codes "count" ∷ text ∷ codes "at" ∷ written ∷ more → unit_of text ≡ Some named → offset_reading_of written ≡ read
     → Outcome words (count_at_read named read more)
-by_count_offset words text written more named (Ok o) front u e = by_count_strictness words more (clock named o) (at_offset front u e)
+by_count_offset words text written more named (Ok o) front u e = by_count_all words more (clock named o) (starts_all more) (at_offset front u e) refl
 by_count_offset words text written more named (Err refusal) front u e = misused (count_offset front u e)
 
 by_count_at : (words : List (List ℕ)) (text : List ℕ) (more : List (List ℕ)) (named : units.Unit) → words ≡ codes "count" ∷ text ∷ codes "at" ∷ more
@@ -275,7 +285,7 @@ by_count_in : (words : List (List ℕ)) (text : List ℕ) (more : List (List ℕ
 by_count_in words text [] named true front u e = absurd cc
 by_count_in words text (word ∷ more) named true front u e =
     by_count_at words text more named (front ∙ ap (λ (z : List ℕ). codes "count" ∷ text ∷ z ∷ more) (same_word word (codes "at") e)) u
-by_count_in words text more named false front u e = by_count_strictness words more (clock named (pos 0)) (in_utc front u e)
+by_count_in words text more named false front u e = by_count_all words more (clock named (pos 0)) (starts_all more) (in_utc front u e) refl
 
 by_unit : (words : List (List ℕ)) (text : List ℕ) (more : List (List ℕ)) (read : Option units.Unit) → words ≡ codes "count" ∷ text ∷ more
     → unit_of text ≡ read → Outcome words (count_read read more)
@@ -343,11 +353,13 @@ strict_task words more work found (check e none) s = rw (e, none, s) refl
 strict_task words more work found (check_all e) s = rw (e, s) refl
 strict_task words more work found (gaps e read) s = rw (e, read, s) refl
 
-strict_count : (words more : List (List ℕ)) (by : Clock) (found : Result Bool Misuse) → CountWords words more by → strictness more ≡ found
-    → request_of words ≡ result_map_both (Count by) (λ misuse. misuse) found
+strict_count : (words more : List (List ℕ)) (by : Clock) (all : Bool) (found : Result Bool Misuse) → CountWords words more by all → strictness more ≡ found
+    → request_of words ≡ result_map_both (Count by all) (λ misuse. misuse) found
 unfolding request_of
-strict_count words more by found (in_utc e u none) s = rw (e, u, none, s) refl
-strict_count words more by found (at_offset e u read) s = rw (e, u, read, s) refl
+strict_count words more by all found (some_rows (in_utc e u none) no_all) s = rw (e, u, none, no_all, s) refl
+strict_count words more by all found (some_rows (at_offset e u read) no_all) s = rw (e, u, read, no_all, s) refl
+strict_count words more by all found (all_rows (in_utc e u none)) s = rw (e, u, s) refl
+strict_count words more by all found (all_rows (at_offset e u read)) s = rw (e, u, read, s) refl
 
 strict_is : (more : List (List ℕ)) (is_strict : Bool) → StrictWords more is_strict → strictness more ≡ Ok is_strict
 strict_is more is_strict (lenient e) = rw e refl
@@ -377,7 +389,8 @@ unfolding request_of
 request_is words request (help e) = rw e refl
 request_is words request (version e) = rw e refl
 request_is words request (merge {more = more} {is_strict = b} e h) = rw (e, strict_is more b h) refl
-request_is words request (count {by = by} {more = more} {is_strict = b} front h) = strict_count words more by (Ok b) front (strict_is more b h)
+request_is words request (count {by = by} {more = more} {shows_all = all} {is_strict = b} front h) =
+    strict_count words more by all (Ok b) front (strict_is more b h)
 request_is words request (task {work = work} {more = more} {is_strict = b} front h) =
     strict_task words more work (Ok b) front (strict_is more b h)
 request_is words request (bound_task {work = work} {word = word} {text = text} {bound = bound} h e read) =
@@ -424,8 +437,8 @@ misuse_is words misuse (no_count_offset e u) = rw (e, u) refl
 misuse_is words misuse (count_offset e u read) = rw (e, u, read) refl
 misuse_is words misuse (no_duration e) = rw e refl
 misuse_is words misuse (duration e none) = rw (e, none) refl
-misuse_is words misuse (after_count {by = by} {word = word} {more = more} front none) =
-    strict_count words (word ∷ more) by (Err Extra) front (extra_is word more none)
+misuse_is words misuse (after_count {by = by} {shows_all = all} {word = word} {more = more} front none) =
+    strict_count words (word ∷ more) by all (Err Extra) front (extra_is word more none)
 misuse_is words misuse (after_help e) = rw e refl
 misuse_is words misuse (after_version e) = rw e refl
 misuse_is words misuse (after_merge {word = word} {more = more} e none) = rw (e, extra_is word more none) refl

@@ -1,6 +1,6 @@
 -- Lines written, each by itself.
 use Rattle.std.proofs.Common.{◌≡◌, refl, sym, ap, ap₂, ◌∙◌, subst, ℕ, ◌<◌, Bool, true, false, nat_eq, List, [], ◌∷◌}
-use Rattle.std.proofs.Common.{◌++◌, map, drop, length, append_assoc, length-append, inl, inr, ◌+◌, ℤ, Option, Some, None, Result, Ok, Err, IsOk, arith}
+use Rattle.std.proofs.Common.{◌++◌, map, drop, length, append_assoc, length-append, inl, inr, ◌+◌, ◌-◌, ℤ, Option, Some, None, Result, Ok, Err, IsOk, arith}
 use Rattle.std.specs.List.{concat, starts_with}
 use Rattle.std.proofs.lemmas.Bool.{cases_Bool}
 use Rattle.std.proofs.lemmas.Bool.Decides.{Decides-eqb}
@@ -14,22 +14,25 @@ use Rattle.stamps.specs.Decisions.{decision_of, first_state, is_first, one_more,
 use Rattle.stamps.specs.Laws.{fed, last_written, line_written, lines_written, text_written}
 use Rattle.stamps.specs.LineStamps.{byte_order_mark, has_mark, mark_length, stamp_of}
 use Rattle.stamps.specs.Runs.{Run, input_run, known_after, last_of, last_run, line_feed, line_run, output_of, then_on}
-use Rattle.stamps.specs.Styles.{text_in}
+use Rattle.stamps.specs.StampTexts.{stamp_text}
 use Rattle.log_forms.specs.Stamps.{stamp_at}
 use Rattle.log_forms.specs.Years.{assumed_after, assumed_then}
 use Rattle.log_forms.specs.declared.instants.Assumed.{Assumed}
+use Rattle.log_forms.specs.declared.places.Place.{Place}
 use Rattle.log_forms.specs.declared.stamps.Stamp as formed
 use Rattle.log_forms.specs.declared.stamps.StampRefusal.{StampRefusal}
 use Rattle.log_forms.specs.declared.stamps.StampRefusal.TheVariants as form
 use Rattle.rfc3339.specs.declared.refusal.TextRefusal.{TextRefusal}
 use Rattle.rfc3339.specs.declared.refusal.TextRefusal.TheVariants.{Syntax}
 use Rattle.rfc3339.specs.declared.refusal.TextRefusal.TheVariants as text
-use Rattle.stamps.specs.Readers.{IsOfOneLine, form_stamp, formed_at, line_stamp, plain_at, stamp_behind}
+use Rattle.stamps.specs.Readers.{IsOfOneLine, form_stamp, formed_at, in_line, line_stamp, plain_at, stamp_behind, value_kind}
 use Rattle.stamps.specs.declared.decide.Stamp.{Stamp}
 use Rattle.stamps.specs.declared.readers.LineRefusal.{LineRefusal}
 use Rattle.stamps.specs.declared.readers.LineStamp.{LineStamp}
 use Rattle.stamps.specs.declared.readers.Reader.{Reader}
 use Rattle.stamps.specs.declared.readers.Reader.TheVariants.{Plain, Formed}
+use Rattle.stamps.specs.declared.readers.ValueKind.{ValueKind}
+use Rattle.stamps.specs.declared.readers.ValueKind.TheVariants.{Number, Quoted, Other}
 use Rattle.stamps.specs.declared.decide.State.{State}
 use Rattle.stamps.specs.declared.task.Style.{Style}
 use Rattle.stamps.specs.declared.task.Action.TheVariants.{Write}
@@ -50,7 +53,7 @@ written_text : (style : Style) (n : ℕ) (stamp : Result LineStamp LineRefusal) 
     → let decision = rewritten style false n stamp in
     (then_on (output_of decision line ++ line_feed decision) (known_after decision state) next).text
     ≡ fed (output_of (rewritten style false 1 stamp) line) ++ (next state).text
-written_text style n (Ok stamp) state line next = placed_text n stamp (text_in style stamp.instant) state line next
+written_text style n (Ok stamp) state line next = placed_text n stamp (stamp_text style stamp) state line next
 written_text style n (Err refusal) state line next = refl
 
 placed_same : (n : ℕ) (stamp : LineStamp) (o : Option (List ℕ)) (line : List ℕ)
@@ -60,7 +63,7 @@ placed_same n stamp (Some text) line = refl
 
 written_same : (style : Style) (n : ℕ) (stamp : Result LineStamp LineRefusal) (line : List ℕ)
     → output_of (rewritten style false n stamp) line ≡ output_of (rewritten style false 1 stamp) line
-written_same style n (Ok stamp) line = placed_same n stamp (text_in style stamp.instant) line
+written_same style n (Ok stamp) line = placed_same n stamp (stamp_text style stamp) line
 written_same style n (Err refusal) line = refl
 
 placed_known : (n : ℕ) (stamp : LineStamp) (o : Option (List ℕ)) (state : State)
@@ -70,7 +73,7 @@ placed_known n stamp (Some text) state = refl
 
 written_known : (style : Style) (n : ℕ) (stamp : Result LineStamp LineRefusal) (state : State)
     → known_after (rewritten style false n stamp) state ≡ Ok state
-written_known style n (Ok stamp) state = placed_known n stamp (text_in style stamp.instant) state
+written_known style n (Ok stamp) state = placed_known n stamp (stamp_text style stamp) state
 written_known style n (Err refusal) state = refl
 
 -- ---- no year is assumed
@@ -85,7 +88,8 @@ same_stamp : (r : Reader) (last : Option ℤ) (is_first : Bool) (line : List ℕ
 same_stamp Plain last is_first line one = refl
 same_stamp (Formed by) last is_first line one =
     let before = mark_length (has_mark is_first line) in
-    ap (λ (assumed : Assumed). formed_at before (stamp_at by.form by.place by.text assumed (drop before line))) (assumed_same by.assumed last one)
+    ap (λ (assumed : Assumed). formed_at before by.place (drop before line) (stamp_at by.form by.place by.text assumed (drop before line)))
+    (assumed_same by.assumed last one)
 
 -- ---- all lines
 
@@ -213,10 +217,7 @@ mark_first line =
 
 -- a stamp at another place
 abbrev at_place : LineStamp → ℕ → LineStamp
-at_place stamp start = record { instant = stamp.instant; start = start; length = stamp.length; is_zoned = stamp.is_zoned }
-
-abbrev form_place : formed.Stamp → ℕ → LineStamp
-form_place stamp start = record { instant = stamp.instant; start = start; length = stamp.length; is_zoned = stamp.is_zoned }
+at_place stamp start = record stamp { start = start }
 
 -- a stamp that has three bytes more before it
 abbrev moved : Result LineStamp LineRefusal → Result LineStamp LineRefusal
@@ -228,16 +229,26 @@ plain_moved (Ok stamp) = refl
 plain_moved (Err Syntax) = refl
 plain_moved (Err (text.OutOfRange component)) = refl
 
-formed_moved : (stamp : Result formed.Stamp StampRefusal) → formed_at 3 stamp ≡ moved (formed_at 0 stamp)
-formed_moved (Ok stamp) =
+in_line_moved : (kind : ValueKind) (stamp : formed.Stamp) → in_line 3 kind stamp ≡ at_place (in_line 0 kind stamp) (3 + (in_line 0 kind stamp).start)
+in_line_moved Number stamp =
     let start : 3 + stamp.start ≡ 3 + (0 + stamp.start) = omega arith in
-    ap (λ (n : ℕ). Ok (form_place stamp n)) start
-formed_moved (Err form.Absent) = refl
-formed_moved (Err (form.Part refusal)) = refl
+    ap (λ (n : ℕ). at_place (in_line 0 Number stamp) n) start
+in_line_moved Quoted stamp =
+    let start : 3 + (stamp.start - 1) ≡ 3 + (0 + (stamp.start - 1)) = omega arith in
+    ap (λ (n : ℕ). at_place (in_line 0 Quoted stamp) n) start
+in_line_moved Other stamp =
+    let start : 3 + stamp.start ≡ 3 + (0 + stamp.start) = omega arith in
+    ap (λ (n : ℕ). at_place (in_line 0 Other stamp) n) start
+
+formed_moved : (place : Place) (line : List ℕ) (stamp : Result formed.Stamp StampRefusal)
+    → formed_at 3 place line stamp ≡ moved (formed_at 0 place line stamp)
+formed_moved place line (Ok stamp) = ap (λ (z : LineStamp). Ok z) (in_line_moved (value_kind place line stamp) stamp)
+formed_moved place line (Err form.Absent) = refl
+formed_moved place line (Err (form.Part refusal)) = refl
 
 behind_moved : (r : Reader) (last : Option ℤ) (text : List ℕ) → stamp_behind r last 3 text ≡ moved (stamp_behind r last 0 text)
 behind_moved Plain last text = plain_moved (stamp_of text)
-behind_moved (Formed by) last text = formed_moved (form_stamp by last text)
+behind_moved (Formed by) last text = formed_moved by.place text (form_stamp by last text)
 
 placed_marked : (stamp : LineStamp) (o : Option (List ℕ)) (line : List ℕ)
     → output_of (with_text false 1 (at_place stamp (3 + stamp.start)) o) (byte_order_mark ++ line)
@@ -252,7 +263,7 @@ placed_marked stamp (Some text) line =
 
 rewritten_marked : (style : Style) (stamp : Result LineStamp LineRefusal) (line : List ℕ)
     → output_of (rewritten style false 1 (moved stamp)) (byte_order_mark ++ line) ≡ byte_order_mark ++ output_of (rewritten style false 1 stamp) line
-rewritten_marked style (Ok stamp) line = placed_marked stamp (text_in style stamp.instant) line
+rewritten_marked style (Ok stamp) line = placed_marked stamp (stamp_text style stamp) line
 rewritten_marked style (Err refusal) line = refl
 
 pub marked : (r : Reader) (style : Style) (line : List ℕ)

@@ -7,21 +7,21 @@ _stamps() {
         return
     fi
     if [ "${COMP_WORDS[COMP_CWORD - 1]}" = --form ]; then
-        mapfile -t COMPREPLY < <(compgen -W 'rfc3339 rfc3339-comma journald rfc5424 rfc3164 git postgres clf git-default date rfc2822 haproxy nginx-error local-comma local two-spaces apache-error redis tomcat erlang bgl syslog klog android unix unix-ms unix-us unix-ns mysql-5.6 hdfs spark' -- "$typed")
+        mapfile -t COMPREPLY < <(compgen -W 'rfc3339 rfc3339-comma journald rfc5424 rfc3164 git postgres clf git-default date rfc2822 haproxy nginx-error local-comma local two-spaces apache-error redis tomcat erlang bgl syslog klog android syslog-year modsecurity php hour-offset cisco-utc cisco asa nxos django splunk clickhouse suricata redis-2.8 glog unix unix-ms unix-us unix-ns mysql-5.6 hdfs spark' -- "$typed")
         return
     fi
     # With no answer here, bash completes the name of a file.
     [[ "$typed" == -* ]] || return 0
     case "${COMP_WORDS[1]}" in
-        utc) options='--strict --form --at --offset --year' ;;
-        at) options='--strict --form --at --offset --year' ;;
-        unix) options='--strict --form --at --offset --year' ;;
-        check) options='--all --strict --form --at --offset --year' ;;
-        gaps) options='--strict --form --at --offset --year' ;;
-        count) options='--strict --form --at --offset --year' ;;
-        since) options='--form --at --offset --year' ;;
-        until) options='--form --at --offset --year' ;;
-        merge) options='--strict --form --at --offset --year' ;;
+        utc) options='--strict --form --place --offset --year --quiet' ;;
+        at) options='--strict --form --place --offset --year --quiet' ;;
+        unix) options='--strict --form --place --offset --year --quiet' ;;
+        check) options='--all --strict --form --place --offset --year --quiet' ;;
+        gaps) options='--strict --form --place --offset --year --quiet' ;;
+        count) options='--all --strict --form --place --offset --year --quiet' ;;
+        since) options='--form --place --offset --year --quiet' ;;
+        until) options='--form --place --offset --year --quiet' ;;
+        merge) options='--strict --form --place --offset --year --quiet' ;;
     esac
     mapfile -t COMPREPLY < <(compgen -W "$options" -- "$typed")
 }

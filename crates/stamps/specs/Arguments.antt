@@ -116,9 +116,11 @@ unit_of word =
 abbrev pub clock : units.Unit → ℤ → Clock
 clock unit offset = record { unit = unit; offset = offset }
 
--- a count by a clock
+-- a count by a clock: with `--all` each unit without lines has a row
 abbrev pub count_by : units.Unit → ℤ → List (List ℕ) → Result Request Misuse
-count_by unit offset words = result_map_both (Count (clock unit offset)) (λ misuse. misuse) (strictness words)
+count_by unit offset words =
+    if starts_all words then result_map_both (Count (clock unit offset) true) (λ misuse. misuse) (strictness (drop 1 words))
+    else result_map_both (Count (clock unit offset) false) (λ misuse. misuse) (strictness words)
 
 -- a count at an offset, or the misuse if the offset is invalid
 abbrev pub count_at_read : units.Unit → Result ℤ TextRefusal → List (List ℕ) → Result Request Misuse
@@ -144,7 +146,7 @@ abbrev pub count_read : Option units.Unit → List (List ℕ) → Result Request
 count_read (Some unit) words = count_in unit words
 count_read None words = Err Unit
 
--- the request of `count UNIT [at OFFSET]`
+-- the request of `count UNIT [at OFFSET] [--all]`
 abbrev pub count_request : List (List ℕ) → Result Request Misuse
 count_request [] = Err NoUnit
 count_request (text ∷ words) = count_read (unit_of text) words
@@ -166,17 +168,17 @@ request_of (word ∷ words) =
 
 -- the message of a misuse: the fault and the remedy
 abbrev pub misuse_text : Misuse → List ℕ
-misuse_text NoWord = codes "no word is given: begin with one of the words below"
-misuse_text UnknownWord = codes "the first word is unknown: begin with one of the words below"
+misuse_text NoWord = codes "no word is given: begin with one of those of the usage"
+misuse_text UnknownWord = codes "the word '' is unknown"
 misuse_text NoOffset = codes "at has no offset: add one, as +05:30 or Z"
-misuse_text (Offset Syntax) = codes "the offset has another form: write it as +05:30 or Z"
-misuse_text (Offset (OutOfRange component)) = codes "the offset is out of range: write one from -23:59 to +23:59"
+misuse_text (Offset Syntax) = codes "the offset '' has another form: write it as +05:30 or Z"
+misuse_text (Offset (OutOfRange component)) = codes "the offset '' is out of range: write one from -23:59 to +23:59"
 misuse_text NoInstant = codes "the bound is missing: add a date-time, as 2024-02-29T12:00:00Z"
-misuse_text (Instant Syntax) = codes "the bound has another form: write a date-time, as 2024-02-29T12:00:00Z"
-misuse_text (Instant (OutOfRange component)) = codes "the bound has a part that is out of range: write a date-time of the calendar"
-misuse_text TooFine = codes "the bound has more than nine digits of a fraction: write nine at most, or 0 for each digit past the ninth"
+misuse_text (Instant Syntax) = codes "the bound '' has another form: write a date-time, as 2024-02-29T12:00:00Z"
+misuse_text (Instant (OutOfRange component)) = codes "the bound '' has a part that is out of range: write a date-time of the calendar"
+misuse_text TooFine = codes "the bound '' has more than nine digits of a fraction: write nine at most, or 0 for each digit past the ninth"
 misuse_text NoUnit = codes "count has no unit: add minute, hour or day"
-misuse_text Unit = codes "the unit is unknown: write minute, hour or day"
+misuse_text Unit = codes "the unit '' is unknown: write minute, hour or day"
 misuse_text NoDuration = codes "gaps has no duration: add one, as 90s, 5m or 1h30m"
-misuse_text Duration = codes "the duration has another form: write whole numbers with d, h, m and s, as 1h30m"
-misuse_text Extra = codes "a word is unknown or too many: leave it out"
+misuse_text Duration = codes "the duration '' has another form: write whole numbers with d, h, m and s, as 1h30m"
+misuse_text Extra = codes "the word '' is unknown or too many"

@@ -1,10 +1,11 @@
 -- The buckets of lines: minutes, hours or days of the local clock at an offset.
-use Rattle.std.specs.Prelude.{ℕ, List, ◌++◌, codes, decimal, ℤ, pos, ◌+ℤ◌, Option}
+use Rattle.std.specs.Prelude.{ℕ, Bool, true, false, List, ◌++◌, codes, decimal, ℤ, pos, Option}
 use Rattle.std.specs.Option.{option_and_then}
 use Rattle.calendar_values.specs.Clock.{nanos_per_day, nanos_per_hour, nanos_per_minute}
-use Rattle.plain_times.specs.Sums.{nearest_wall_clock, wall_clock_if_any}
+use Rattle.plain_times.specs.Sums.{wall_clock_if_any}
 use Rattle.offset_times.specs.Local.{instant_of, local_multiple_below, shown_at, wall_at}
-use Rattle.line_counts.specs.Counting.{Counting}
+use Rattle.line_counts.specs.Counting.{Counting, most}
+use Rattle.line_counts.specs.Steps.{step_of}
 use Rattle.stamps.specs.LineInstants.{line_instant}
 use Rattle.stamps.specs.Notes.{text_or_unix}
 use Rattle.stamps.specs.Styles.{text_in}
@@ -30,11 +31,20 @@ bucket_of clock i = option_and_then (start_of clock) (wall_clock_if_any (shown_a
 
 -- the bucket after a bucket
 abbrev pub next_bucket : Clock → ℤ → ℤ
-next_bucket clock start = nearest_wall_clock (start +ℤ pos (unit_nanos clock.unit))
+next_bucket clock = step_of (unit_nanos clock.unit)
 
 -- the text of a row: the start of the bucket at the offset, a space and the number of lines
 abbrev pub row_text : Clock → ℤ → ℕ → List ℕ
 row_text clock start count = text_or_unix (text_in (At clock.offset) start) start ++ codes " " ++ decimal count ++ codes "\n"
+
+-- the most buckets without lines one after another that have rows: 10,000, or all
+abbrev pub most_empty : Bool → ℕ
+most_empty true = most
+most_empty false = 10_000
+
+-- the text in place of the rows of this number of buckets without lines
+abbrev pub text_in_place : ℕ → List ℕ
+text_in_place count = codes "... " ++ decimal count ++ codes " rows of 0\n"
 
 -- how lines are counted
 abbrev pub counting : ClockBuckets → Counting
@@ -43,4 +53,6 @@ counting buckets = record {
   bucket = bucket_of buckets.clock;
   next = next_bucket buckets.clock;
   row = row_text buckets.clock;
+  most_empty = most_empty buckets.shows_all;
+  in_place = text_in_place;
 }

@@ -1,26 +1,48 @@
 -- The reader that the first lines of a log choose.
-use Rattle.std.specs.Prelude.{ℕ, ◌||◌, Bool, false, List, [], ◌∷◌, if◌then◌else◌, ℤ, Option, None, Result, Ok, Err}
+use Rattle.std.specs.Prelude.{ℕ, ◌&&◌, Bool, true, false, List, [], ◌∷◌, ℤ, Option, Some, None, Result, Ok, Err}
 use Rattle.std.specs.Result.{is_ok}
-use Rattle.log_forms.specs.Choices.{choice_of, reader_form, reader_key, reader_place}
+use Rattle.log_forms.specs.Choices.{choice_of, reader_form, reader_key, reader_place, some_year}
 use Rattle.log_forms.specs.Forms.{form_named}
+use Rattle.log_forms.specs.Stamps.{stamp_at}
+use Rattle.log_forms.specs.declared.names.FormName.{FormName}
+use Rattle.log_forms.specs.declared.names.FormName.TheVariants.{Rfc3339}
 use Rattle.log_forms.specs.declared.places.Place.{Place}
-use Rattle.stamps.specs.LineStamps.{stamp_of}
-use Rattle.stamps.specs.Reading.{offset_asked, place_text, whole_reader, year_asked}
+use Rattle.log_forms.specs.declared.stamps.Stamp.{Stamp}
+use Rattle.log_forms.specs.declared.stamps.StampRefusal.{StampRefusal}
+use Rattle.stamps.specs.Reading.{is_front, offset_asked, place_text, plain_reader, whole_reader, year_asked}
 use Rattle.stamps.specs.declared.readers.Reader.{Reader}
 use Rattle.stamps.specs.declared.reading.ReadingMisuse.{ReadingMisuse}
 
--- whether a line begins with a date-time of RFC 3339
-unfoldable pub any_plain : List (List ℕ) → Bool
-any_plain [] = false
-any_plain (line ∷ lines) = is_ok (stamp_of line) || any_plain lines
+-- the stamp that a reader reads in a line
+abbrev pub stamp_by : ℕ → List ℕ → Result Stamp StampRefusal
+stamp_by number line = stamp_at (form_named (reader_form number)) (reader_place number) (reader_key number) some_year line
 
--- the number of the form and the place for a log, unless a line begins with a date-time of RFC 3339
-unfoldable pub chosen : List (List ℕ) → Option ℕ
-chosen lines = if any_plain lines then None else choice_of lines
+-- whether it reads one
+abbrev pub reads : ℕ → List ℕ → Bool
+reads number line = is_ok (stamp_by number line)
+
+-- whether a reader reads a stamp in each of two lines
+abbrev pub reads_two : Option ℕ → List ℕ → List ℕ → Bool
+reads_two (Some number) first second = reads number first && reads number second
+reads_two None first second = false
+
+-- whether the reader that two lines choose reads a stamp in both
+abbrev pub both_read : List ℕ → List ℕ → Bool
+both_read first second = reads_two (choice_of (first ∷ second ∷ [])) first second
+
+-- whether a form at a place is RFC 3339 at the front
+abbrev pub is_plain : FormName → Place → Bool
+is_plain Rfc3339 place = is_front place
+is_plain _ place = false
+
+-- the reader of a form of a name: that of RFC 3339 is the plain one at the front
+abbrev pub named_reader : FormName → Place → List ℕ → Option ℤ → Option ℤ → Result Reader ReadingMisuse
+named_reader Rfc3339 at text offset year = plain_reader at text offset year
+named_reader name at text offset year = whole_reader (form_named name) at text offset year
 
 -- the reader of a number with a year, an offset and a place, or the misuse of one of them
 abbrev pub chosen_at_year : ℕ → Place × List ℕ → Option ℤ → Result (Option ℤ) ReadingMisuse → Result Reader ReadingMisuse
-chosen_at_year number found offset (Ok year) = whole_reader (form_named (reader_form number)) found.0 found.1 offset year
+chosen_at_year number found offset (Ok year) = named_reader (reader_form number) found.0 found.1 offset year
 chosen_at_year number found offset (Err misuse) = Err misuse
 
 abbrev pub chosen_at_offset : ℕ → Place × List ℕ → Result (Option ℤ) ReadingMisuse → Option (List ℕ) → Result Reader ReadingMisuse

@@ -2,8 +2,11 @@
 use Rattle.std.specs.Prelude.{ℕ, ◌+◌, ◌-◌, ◌^◌, ◌==◌, ◌&&◌, Bool, true, false, not}
 use Rattle.std.specs.Prelude.{nat_lt, min, List, [], if◌then◌else◌, ℤ, ◌-ℤ◌, int_lt, Option, Some, None, is_none}
 use Rattle.std.specs.Prelude.{Result, Ok, Err}
+use Rattle.std.specs.Result.{is_ok}
+use Rattle.line_devices.specs.StampTallies.{first_tally, kind_of, tally_after}
+use Rattle.line_devices.specs.declared.stamp_tallies.LineKind.{LineKind}
 use Rattle.stamps.specs.Readers.{line_stamp}
-use Rattle.stamps.specs.Styles.{text_in}
+use Rattle.stamps.specs.StampTexts.{stamp_text}
 use Rattle.stamps.specs.declared.decide.Decision.{Decision}
 use Rattle.stamps.specs.declared.decide.Decision.TheVariants.{Keep, Skip, Stop, Tell}
 use Rattle.stamps.specs.declared.decide.State.{State}
@@ -44,7 +47,7 @@ with_text is_strict line stamp None = as_it_is is_strict line NoText
 -- the line with its stamp written in a style, unless the task is strict and a zone in brackets follows the stamp
 abbrev pub in_place : Style → Bool → ℕ → LineStamp → Decision
 in_place style is_strict line stamp =
-    if is_strict && stamp.is_zoned then Stop (Line line Zone) else with_text is_strict line stamp (text_in style stamp.instant)
+    if is_strict && stamp.is_zoned then Stop (Line line Zone) else with_text is_strict line stamp (stamp_text style stamp)
 
 -- the line with its stamp written in a style
 abbrev pub rewritten : Style → Bool → ℕ → Result LineStamp LineRefusal → Decision
@@ -80,12 +83,12 @@ gap_after limit is_strict line before i =
     if is_strict && int_lt i before then Stop (Line line Earlier)
     else (if int_lt limit (i -ℤ before) then Tell (Gap line before i) else Skip)
 
--- the decision of `gaps`: a note on the time since the last instant if that is more than the limit. If the task is strict, stop at
--- a line without a stamp
+-- the decision of `gaps`: a note on the time since the latest instant if that is more than the limit. If the task is strict, stop
+-- at a line without a stamp
 abbrev pub gap_line : ℤ → Bool → ℕ → Option ℤ → Result LineStamp LineRefusal → Decision
 gap_line limit is_strict line (Some before) (Ok stamp) = gap_after limit is_strict line before stamp.instant
 gap_line limit is_strict line None (Ok stamp) = Skip
-gap_line limit is_strict line last (Err refusal) = stop_if is_strict line (cause_of refusal)
+gap_line limit is_strict line latest (Err refusal) = stop_if is_strict line (cause_of refusal)
 
 -- keep the whole line, or skip it
 abbrev pub going_on : Bool → Decision
@@ -107,22 +110,43 @@ abbrev pub last_of : Option ℤ → Result LineStamp LineRefusal → Option ℤ
 last_of last (Ok stamp) = Some stamp.instant
 last_of last (Err refusal) = last
 
--- the state after one more line with this stamp
-abbrev pub state_by : Action → State → Result LineStamp LineRefusal → State
-state_by action state stamp = record {
+-- the later of two instants, of which there may be one
+abbrev pub later_of : Option ℤ → ℤ → ℤ
+later_of (Some before) i = if int_lt i before then before else i
+later_of None i = i
+
+-- the latest instant, if the task asks for gaps
+abbrev pub latest_of : Action → Option ℤ → Result LineStamp LineRefusal → Option ℤ
+latest_of (Gaps limit is_strict) latest (Ok stamp) = Some (later_of latest stamp.instant)
+latest_of (Write style is_strict) latest (Ok stamp) = latest
+latest_of (Check is_strict) latest (Ok stamp) = latest
+latest_of (CheckAll is_strict) latest (Ok stamp) = latest
+latest_of (Since bound) latest (Ok stamp) = latest
+latest_of (Until bound) latest (Ok stamp) = latest
+latest_of action latest (Err refusal) = latest
+
+-- the kind of a line with this stamp
+abbrev pub line_kind : List ℕ → Result LineStamp LineRefusal → LineKind
+line_kind line stamp = kind_of line (is_ok stamp)
+
+-- the state after one more line of this kind with this stamp
+abbrev pub state_by : Action → State → LineKind → Result LineStamp LineRefusal → State
+state_by action state kind stamp = record {
   lines = one_more state.lines;
   last = last_of state.last stamp;
+  latest = latest_of action state.latest stamp;
   goes_on = goes_on action state.goes_on stamp;
+  tally = tally_after state.tally (one_more state.lines) kind;
 }
 
--- the decision on the line with this stamp, by the last instant before it and the state after it
-abbrev pub decision_by : Action → Option ℤ → State → Result LineStamp LineRefusal → Decision
-decision_by (Write style is_strict) last after stamp = rewritten style is_strict after.lines stamp
-decision_by (Check is_strict) last after stamp = check_line is_strict after.lines last stamp
-decision_by (CheckAll is_strict) last after stamp = as_note (check_line is_strict after.lines last stamp)
-decision_by (Gaps limit is_strict) last after stamp = gap_line limit is_strict after.lines last stamp
-decision_by (Since bound) last after stamp = going_on after.goes_on
-decision_by (Until bound) last after stamp = going_on after.goes_on
+-- the decision on the line with this stamp, by the states before and after it
+abbrev pub decision_by : Action → State → State → Result LineStamp LineRefusal → Decision
+decision_by (Write style is_strict) before after stamp = rewritten style is_strict after.lines stamp
+decision_by (Check is_strict) before after stamp = check_line is_strict after.lines before.last stamp
+decision_by (CheckAll is_strict) before after stamp = as_note (check_line is_strict after.lines before.last stamp)
+decision_by (Gaps limit is_strict) before after stamp = gap_line limit is_strict after.lines before.latest stamp
+decision_by (Since bound) before after stamp = going_on after.goes_on
+decision_by (Until bound) before after stamp = going_on after.goes_on
 
 -- whether the next line is the first
 abbrev pub is_first : State → Bool
@@ -132,11 +156,12 @@ is_first state = state.lines == 0
 unfoldable pub decision_of : Task → State → List ℕ → Decision
 decision_of task state line =
     let stamp = line_stamp task.reader state.last (is_first state) line in
-    decision_by task.action state.last (state_by task.action state stamp) stamp
+    decision_by task.action state (state_by task.action state (line_kind line stamp) stamp) stamp
 
 -- the state after this line
 unfoldable pub state_after : Task → State → List ℕ → State
-state_after task state line = state_by task.action state (line_stamp task.reader state.last (is_first state) line)
+state_after task state line =
+    let stamp = line_stamp task.reader state.last (is_first state) line in state_by task.action state (line_kind line stamp) stamp
 
 -- whether to keep the lines before the first stamp: they count as earlier than every instant
 abbrev pub goes_on_first : Action → Bool
@@ -149,7 +174,7 @@ goes_on_first (Gaps limit is_strict) = false
 
 -- the state before the first line
 abbrev pub first_state : Task → State
-first_state task = record { lines = 0; last = None; goes_on = goes_on_first task.action }
+first_state task = record { lines = 0; last = None; latest = None; goes_on = goes_on_first task.action; tally = first_tally }
 
 -- the finding of lines without any stamp
 abbrev pub no_stamp : State → Option Finding

@@ -1,6 +1,7 @@
 -- The faults that end the work, and the exit status.
 use Rattle.std.specs.Prelude.{◌≡◌, ℕ, Bool, List, Option, Result, Ok, Err, if◌then◌else◌}
 use Rattle.std.specs.Io.KnownBytes.{Appends}
+use Rattle.line_devices.specs.declared.stamp_tallies.StampTally.{StampTally}
 use Rattle.stamps.specs.Runs.{Run}
 use Rattle.stamps.specs.declared.finding.Finding.{Finding}
 use Rattle.stamps.specs.declared.lines.LineFault.{LineFault}
@@ -14,8 +15,8 @@ stamp_fault line.Write = Write
 stamp_fault (line.Found found) = Found found
 
 -- the exit status: as that of `grep`, 1 for a finding or a note, and 2 for an error
-abbrev pub status_of : Result Unit StampFault → Bool → ℕ
-status_of (Ok done) has_told = if has_told then 1 else 0
+abbrev pub status_of : Result StampTally StampFault → Bool → ℕ
+status_of (Ok tally) has_told = if has_told then 1 else 0
 status_of (Err (Found found)) has_told = 1
 status_of (Err Read) has_told = 2
 status_of (Err Write) has_told = 2

@@ -1,6 +1,6 @@
 -- Laws of all inputs, for the owner of a log. A function of `src/laws.rt` proves each of them.
-use Rattle.std.specs.Prelude.{◌≡◌, ◌↔◌, ℕ, ◌≤◌, Bool, true, false, not, ◌&&◌, List, []}
-use Rattle.std.specs.Prelude.{◌∷◌, ◌++◌, drop, length, map, nat_eq, slice_get, ℤ, int_lt, Option, Some, None}
+use Rattle.std.specs.Prelude.{◌≡◌, ◌↔◌, ℕ, ◌+◌, ◌-◌, ◌≤◌, Bool, true, false, not, ◌&&◌, List, []}
+use Rattle.std.specs.Prelude.{◌∷◌, ◌++◌, drop, length, map, nat_eq, slice_get, take, if◌then◌else◌, ℤ, ◌-ℤ◌, int_lt, Option, Some, None}
 use Rattle.std.specs.Prelude.{Result, Ok, Err, IsOk, IsTrue, ⊤}
 use Rattle.std.specs.Cmp.Lexicographic.{slice_cmp}
 use Rattle.std.specs.List.{concat, list_all, list_any, starts_with}
@@ -12,25 +12,32 @@ use Rattle.offset_times.specs.Local.{instant_of}
 use Rattle.rfc3339.specs.Form.{IsDateTime}
 use Rattle.rfc3339.specs.Meaning.{AreInRange, meaning, value_of}
 use Rattle.rfc3339.specs.Texts.{fixed_text}
+use Rattle.rfc3339.specs.UnixTexts.{unix_text}
 use Rattle.rfc3339.specs.declared.parts.Parts.{Parts}
 use Rattle.rfc3339.specs.declared.refusal.Component.{Component}
 use Rattle.rfc3339.specs.declared.refusal.TextRefusal.TheVariants.{Syntax, OutOfRange}
-use Rattle.stamps.specs.Decisions.{is_earlier, last_of, reading, rewritten}
+use Rattle.stamps.specs.Decisions.{is_earlier, last_of, later_of, one_more, reading, rewritten}
 use Rattle.log_forms.specs.Ends.{continues}
+use Rattle.log_forms.specs.declared.places.Place.TheVariants.{Json}
+use Rattle.log_forms.specs.declared.stamps.Stamp as forms
 use Rattle.stamps.specs.LineStamps.{byte_order_mark, longest_stamp, opens_bracket, stamp_of}
-use Rattle.stamps.specs.Readers.{IsOfOneLine, line_stamp}
+use Rattle.stamps.specs.Notes.{note_text}
+use Rattle.stamps.specs.Readers.{IsOfOneLine, line_stamp, value_kind}
 use Rattle.stamps.specs.Runs.{input_run, output_of}
 use Rattle.stamps.specs.Runs as runs
+use Rattle.stamps.specs.StampTexts.{in_quotes, is_date}
 use Rattle.stamps.specs.Styles.{text_in}
 use Rattle.stamps.specs.declared.decide.Stamp.{Stamp}
+use Rattle.stamps.specs.declared.notes.Note.TheVariants.{Gap}
 use Rattle.stamps.specs.declared.readers.LineRefusal.{LineRefusal}
 use Rattle.stamps.specs.declared.readers.LineRefusal.TheVariants as line
 use Rattle.stamps.specs.declared.readers.LineStamp.{LineStamp}
 use Rattle.stamps.specs.declared.readers.Reader.{Reader}
 use Rattle.stamps.specs.declared.readers.Reader.TheVariants.{Plain}
+use Rattle.stamps.specs.declared.readers.ValueKind.TheVariants.{Quoted}
 use Rattle.stamps.specs.declared.task.Style.{Style}
-use Rattle.stamps.specs.declared.task.Style.TheVariants.{Utc}
-use Rattle.stamps.specs.declared.task.Action.TheVariants.{Write, Check, Since, Until}
+use Rattle.stamps.specs.declared.task.Style.TheVariants.{Unix, Utc}
+use Rattle.stamps.specs.declared.task.Action.TheVariants.{Write, Check, Gaps, Since, Until}
 
 -- ---- stamps
 
@@ -203,3 +210,48 @@ pub record CheckTellsTheOrder : Type 0 where
       × IsTrue (is_empty_or_any is_ok (stamps_of reader input)))
   pub strict : (reader : Reader) (input : List ℕ) → IsOk (input_run (reading reader (Check true)) input).end
       ↔ (IsTrue (list_all is_ok (stamps_of reader input)) × AreInOrder reader input)
+
+-- ---- `gaps`
+
+-- whether an instant is later than each instant before it by more than the limit, and there is one
+abbrev pub ends_silence : ℤ → List ℤ → ℤ → Bool
+ends_silence limit [] i = false
+ends_silence limit (j ∷ before) i = list_all (λ at. int_lt limit (i -ℤ at)) (j ∷ before)
+
+-- the latest of some instants, the first of which is at hand
+unfoldable pub latest : ℤ → List ℤ → ℤ
+latest i [] = i
+latest i (j ∷ more) = latest (later_of (Some i) j) more
+
+-- the note on a line with a number and an instant, if that ends a silence: it names the latest instant before
+abbrev pub silence_text : ℤ → List ℤ → ℕ → ℤ → List ℕ
+silence_text limit [] number i = []
+silence_text limit (j ∷ before) number i =
+    if ends_silence limit (j ∷ before) i then note_text (Gap number (latest j before) i) else []
+
+-- the notes on lines, by their stamps, behind so many lines of these instants
+unfoldable pub silences_told : ℤ → List ℤ → ℕ → List (Result LineStamp LineRefusal) → List ℕ
+silences_told limit before number [] = []
+silences_told limit before number (Ok stamp ∷ stamps) =
+    silence_text limit before (one_more number) stamp.instant
+    ++ silences_told limit (before ++ stamp.instant ∷ []) (one_more number) stamps
+silences_told limit before number (Err refusal ∷ stamps) = silences_told limit before (one_more number) stamps
+
+-- `gaps` tells exactly the lines whose instant is later than each instant before it by more than the limit, and how long the silence was
+-- since the latest of these
+pub record GapsTellSilences : Type 0 where
+  pub text : (reader : Reader) (limit : ℤ) (input : List ℕ)
+      → (input_run (reading reader (Gaps limit false)) input).text ≡ silences_told limit [] 0 (stamps_of reader input)
+  pub ends : (reader : Reader) (limit : ℤ) (input : List ℕ) → IsOk (input_run (reading reader (Gaps limit false)) input).end
+
+-- ---- JSON
+
+-- in place of a value of JSON a date is in quotes and Unix seconds are not, whether the value was a number or a text, whose quotes go with it
+pub record ValuesStayValues : Type 0 where
+  pub date : (reader : Reader) (style : Style) (line : List ℕ) (stamp : LineStamp) (text : List ℕ) → line_stamp reader None false line ≡ Ok stamp
+      → stamp.is_value ≡ true → is_date style ≡ true → text_in style stamp.instant ≡ Some text
+      → line_written reader style false line ≡ take stamp.start line ++ (in_quotes text ++ drop (stamp.start + stamp.length) line)
+  pub seconds : (reader : Reader) (line : List ℕ) (stamp : LineStamp) → line_stamp reader None false line ≡ Ok stamp → stamp.is_value ≡ true
+      → line_written reader Unix false line ≡ take stamp.start line ++ (unix_text stamp.instant ++ drop (stamp.start + stamp.length) line)
+  pub quotes : (line : List ℕ) (stamp : forms.Stamp) → value_kind Json line stamp ≡ Quoted
+      → (1 ≤ stamp.start) × (slice_get line (stamp.start - 1) ≡ Some 34) × (slice_get line (stamp.start + stamp.length) ≡ Some 34)

@@ -1,3 +1,4 @@
+pub mod Ahead
 pub mod Arguments
 pub mod BoundLaws
 pub mod BucketLemmas
@@ -19,7 +20,9 @@ pub mod Progress
 pub mod Readers
 pub mod Reading
 pub mod Runs
+pub mod StampTexts
 pub mod Styles
+pub mod Tallies
 pub mod Tasks
 pub mod Turns
 pub mod Usage

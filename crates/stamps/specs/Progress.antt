@@ -6,6 +6,7 @@ use Rattle.line_devices.specs.Writing.{AppendsBeginning, Sends}
 use Rattle.stamps.specs.Decisions.{decision_of, first_state, state_after}
 use Rattle.stamps.specs.LineStamps.{longest_head}
 use Rattle.stamps.specs.Runs.{run, output_of, known_after, lines_run, input_run}
+use Rattle.stamps.specs.Tallies.{tally_of}
 use Rattle.stamps.specs.declared.decide.Decision.{Decision}
 use Rattle.stamps.specs.declared.decide.Decision.TheVariants.{Keep, Skip, Stop, Tell}
 use Rattle.stamps.specs.declared.decide.State.{State}
@@ -114,7 +115,8 @@ Ends task base now Write input = AppendsBeginning base now (input_run task input
 Ends task base now (Found found) input =
     Appends base now (input_run task input).text × ((input_run task input).end ≡ Err found)
 
--- all of the output for an input was written, and no line ended the run
-pub record Completes (task : Task) (base now : Option (List ℕ)) (input : List ℕ) : Type 0 where
+-- all of the output for an input was written, no line ended the run, and the tally is that of the input
+pub record Completes (task : Task) (base now : Option (List ℕ)) (work : Work) (input : List ℕ) : Type 0 where
   pub written : Appends base now (input_run task input).text
   pub well : IsOk (input_run task input).end
+  pub tally : work.state.tally ≡ tally_of task.reader input

@@ -1,5 +1,5 @@
 -- The reader that the words of the command line ask for.
-use Rattle.std.specs.Prelude.{ℕ, ◌+◌, ◌-◌, ◌*◌, ◌==◌, ◌&&◌, Bool, true, false, nat_lt, List, [], ◌∷◌, codes, drop, length, if◌then◌else◌, ℤ, pos}
+use Rattle.std.specs.Prelude.{ℕ, ◌+◌, ◌-◌, ◌*◌, ◌==◌, ◌&&◌, ◌||◌, Bool, true, false, nat_lt, List, [], ◌∷◌, codes, drop, length, if◌then◌else◌, ℤ, pos}
 use Rattle.std.specs.Prelude.{Option, Some, None, is_none, is_some, Result, Ok, Err}
 use Rattle.std.specs.Char.{is_ascii_digit}
 use Rattle.std.specs.List.{list_any}
@@ -34,32 +34,31 @@ abbrev pub kind_of : List ℕ → Step
 kind_of word =
     if is_dashes word then step.File
     else (if bytes_eq word (codes "--form") then step.Form
-    else (if bytes_eq word (codes "--at") then step.At
+    else (if bytes_eq word (codes "--place") || bytes_eq word (codes "--at") then step.Place
     else (if bytes_eq word (codes "--offset") then step.Offset
     else (if bytes_eq word (codes "--year") then step.Year
-    else (if bytes_eq word (codes "--list-forms") then step.List else step.Word)))))
+    else (if bytes_eq word (codes "--quiet") then step.Quiet
+    else (if bytes_eq word (codes "--list-forms") then step.List else step.Word))))))
+
+-- whether the next word is the value of a word of this kind
+abbrev pub is_valued : Step → Bool
+is_valued step.Form = true
+is_valued step.Place = true
+is_valued step.Offset = true
+is_valued step.Year = true
+is_valued _ = false
 
 -- the kind of a word by that of the word before it: an option takes the next word as its value, and after `--` all are files
 abbrev pub step_after : Step → List ℕ → Step
-step_after step.Form word = step.Value
-step_after step.At word = step.Value
-step_after step.Offset word = step.Value
-step_after step.Year word = step.Value
 step_after step.File word = step.File
-step_after step.Word word = kind_of word
-step_after step.List word = kind_of word
-step_after step.Value word = kind_of word
+step_after before word = if is_valued before then step.Value else kind_of word
 
 -- the misuse of an option that is given twice
 abbrev pub twice_of : Step → ReadingMisuse
 twice_of step.Form = misuse.FormTwice
-twice_of step.At = misuse.AtTwice
+twice_of step.Place = misuse.PlaceTwice
 twice_of step.Offset = misuse.OffsetTwice
-twice_of step.Year = misuse.YearTwice
-twice_of step.Word = misuse.YearTwice
-twice_of step.List = misuse.YearTwice
-twice_of step.Value = misuse.YearTwice
-twice_of step.File = misuse.YearTwice
+twice_of _ = misuse.YearTwice
 
 -- ---- their values
 
@@ -145,6 +144,8 @@ is_front place.Front = true
 is_front (place.Field number) = false
 is_front place.After = false
 is_front place.Json = false
+is_front place.Access = false
+is_front place.Coloured = false
 
 -- RFC 3339 at a place
 abbrev pub plain_reader : Place → List ℕ → Option ℤ → Option ℤ → Result Reader ReadingMisuse
@@ -175,7 +176,7 @@ abbrev pub with_place : Option (List ℕ) → Result (Place × List ℕ) Reading
 with_place form (Ok found) offset year = with_offset form found (offset_asked offset) year
 with_place form (Err misuse) offset year = Err misuse
 
--- the reader of the values of `--form`, `--at`, `--offset` and `--year`, or the first misuse of them
+-- the reader of the values of `--form`, `--place`, `--offset` and `--year`, or the first misuse of them
 unfoldable pub reader_of : Option (List ℕ) → Option (List ℕ) → Option (List ℕ) → Option (List ℕ) → Result Reader ReadingMisuse
 reader_of form at offset year = with_place form (place_asked at) offset year
 
@@ -186,17 +187,17 @@ needs_lines_before (Formed by) = is_some by.assumed.year
 
 -- the message of a misuse: the fault and the remedy
 abbrev pub reading_text : ReadingMisuse → List ℕ
-reading_text misuse.UnknownForm = codes "the form is unknown: write a name of --list-forms, or a description, as [day]/[month]/[year]"
-reading_text misuse.Description = codes "the description of the form is at fault: write it as [day]/[month repr:short]/[year]"
-reading_text misuse.Place = codes "the place is unknown: write front, field:N, after:TEXT or json:NAME"
+reading_text misuse.UnknownForm = codes "the form '' is unknown: write a name of --list-forms, or a description, as [day]/[month]/[year]"
+reading_text misuse.Description = codes "the description '' is at fault: write it as [day]/[month repr:short]/[year]"
+reading_text misuse.Place = codes "the place '' is unknown: write front, field:N, after:TEXT or json:NAME"
 reading_text misuse.LongPlace = codes "the text of the place has more than 255 bytes: write a shorter one"
-reading_text (misuse.Offset Syntax) = codes "the offset has another form: write it as +05:30 or Z"
-reading_text (misuse.Offset (OutOfRange component)) = codes "the offset is out of range: write one from -23:59 to +23:59"
-reading_text misuse.Year = codes "the year has another form: write its four digits, as 2024"
+reading_text (misuse.Offset Syntax) = codes "the offset '' has another form: write it as +05:30 or Z"
+reading_text (misuse.Offset (OutOfRange component)) = codes "the offset '' is out of range: write one from -23:59 to +23:59"
+reading_text misuse.Year = codes "the year '' has another form: write its four digits, as 2024"
 reading_text misuse.LacksOffset = codes "the form has no offset: add one, as --offset +05:30"
 reading_text misuse.LacksYear = codes "the form has no year: add the first one, as --year 2024"
 reading_text misuse.LacksBoth = codes "the form has no offset and no year: add them, as --offset +05:30 --year 2024"
 reading_text misuse.FormTwice = codes "--form is given twice: leave one out"
-reading_text misuse.AtTwice = codes "--at is given twice: leave one out"
+reading_text misuse.PlaceTwice = codes "--place is given twice: leave one out"
 reading_text misuse.OffsetTwice = codes "--offset is given twice: leave one out"
 reading_text misuse.YearTwice = codes "--year is given twice: leave one out"

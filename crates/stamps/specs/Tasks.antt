@@ -12,11 +12,20 @@ tells (Gaps limit is_strict) = true
 tells (Since bound) = false
 tells (Until bound) = false
 
--- whether the task reports lines, and then continues with the next file
-abbrev pub reports : Action → Bool
-reports (Write style is_strict) = false
-reports (Check is_strict) = true
-reports (CheckAll is_strict) = true
-reports (Gaps limit is_strict) = true
-reports (Since bound) = false
-reports (Until bound) = false
+-- whether the task checks lines, and so tells itself of those without a stamp
+abbrev pub checks : Action → Bool
+checks (Write style is_strict) = false
+checks (Check is_strict) = true
+checks (CheckAll is_strict) = true
+checks (Gaps limit is_strict) = false
+checks (Since bound) = false
+checks (Until bound) = false
+
+-- whether a finding in one file ends the work on all: its line would be missing in the output
+abbrev pub ends_at_finding : Action → Bool
+ends_at_finding (Write style is_strict) = is_strict
+ends_at_finding (Check is_strict) = false
+ends_at_finding (CheckAll is_strict) = false
+ends_at_finding (Gaps limit is_strict) = false
+ends_at_finding (Since bound) = false
+ends_at_finding (Until bound) = false

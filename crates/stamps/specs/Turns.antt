@@ -7,6 +7,7 @@ use Rattle.line_devices.specs.Writing.{AppendsBeginning}
 use Rattle.stamps.specs.Faults.{FoundIn}
 use Rattle.stamps.specs.Progress.{Stands}
 use Rattle.stamps.specs.Runs.{input_run, open_run}
+use Rattle.stamps.specs.Tallies.{tally_of}
 use Rattle.stamps.specs.declared.finding.Finding.{Finding}
 use Rattle.stamps.specs.declared.lines.Work.{Work}
 use Rattle.stamps.specs.declared.stamps.StampFault.{StampFault}
@@ -21,11 +22,12 @@ pub record GoesOn (task : Task) (first now : Devices) (pending : List ℕ) (work
   pub no_read_failed : now.read_failed ≡ false
   pub no_write_failed : now.write_failed ≡ false
 
--- the input is at its end, its output was written, and it has no finding
-pub record EndsWell (task : Task) (first now : Devices) : Type 0 where
+-- the input is at its end, its output was written, it has no finding, and the tally is that of it
+pub record EndsWell (task : Task) (first now : Devices) (work : Work) : Type 0 where
   pub none_left : IfSome first.left (λ _. now.left ≡ Some [])
   pub written : IfSome first.left (λ input. Appends first.written now.written (input_run task input).text)
   pub well : IfSome first.left (λ input. IsOk (input_run task input).end)
+  pub tally : IfSome first.left (λ input. work.state.tally ≡ tally_of task.reader input)
   pub no_read_failed : now.read_failed ≡ false
   pub no_write_failed : now.write_failed ≡ false
 
@@ -55,7 +57,7 @@ Stops task (Found found) first now = StopsAtLine task first now found
 
 -- after the bytes that were read, more were read, none is left, or a fault ended the work
 abbrev pub Turns : Result ℕ StampFault → Task → Devices → Devices → List ℕ → Work → List ℕ → Type 0
-Turns (Ok zero) task first now pending work taken = EndsWell task first now
+Turns (Ok zero) task first now pending work taken = EndsWell task first now work
 Turns (Ok (suc more)) task first now pending work taken =
     (longer : List ℕ) × (length taken < length longer) × GoesOn task first now pending work longer
 Turns (Err fault) task first now pending work taken = Stops task fault first now

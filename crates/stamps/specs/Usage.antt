@@ -36,11 +36,16 @@ pub data FrontWords (words more : List (List ℕ)) : (Bool → Action) → Type 
       → FrontWords words more (Gaps (limit_of seconds))
 
 -- count UNIT, count UNIT at OFFSET: a clock, and the words that follow it
-pub data CountWords (words more : List (List ℕ)) : Clock → Type 0 where
+pub data ClockWords (words more : List (List ℕ)) : Clock → Type 0 where
   in_utc : {text : List ℕ} {unit : units.Unit} → words ≡ codes "count" ∷ text ∷ more → unit_of text ≡ Some unit → starts_at more ≡ false
-      → CountWords words more (clock unit (pos 0))
+      → ClockWords words more (clock unit (pos 0))
   at_offset : {text written : List ℕ} {unit : units.Unit} {offset : ℤ} → words ≡ codes "count" ∷ text ∷ codes "at" ∷ written ∷ more
-      → unit_of text ≡ Some unit → offset_reading_of written ≡ Ok offset → CountWords words more (clock unit offset)
+      → unit_of text ≡ Some unit → offset_reading_of written ≡ Ok offset → ClockWords words more (clock unit offset)
+
+-- the same, and perhaps --all: whether each unit without lines has a row
+pub data CountWords (words more : List (List ℕ)) : Clock → Bool → Type 0 where
+  some_rows : {by : Clock} → ClockWords words more by → starts_all more ≡ false → CountWords words more by false
+  all_rows : {by : Clock} → ClockWords words (codes "--all" ∷ more) by → CountWords words more by true
 
 -- since, until
 pub data BoundWord (word : List ℕ) : (ℤ → Action) → Type 0 where
@@ -60,9 +65,9 @@ pub data RequestWords (words : List (List ℕ)) : Request → Type 0 where
   version : words ≡ codes "--version" ∷ [] → RequestWords words Version
   -- merge [--strict]
   merge : {more : List (List ℕ)} {is_strict : Bool} → words ≡ codes "merge" ∷ more → StrictWords more is_strict → RequestWords words (Merge is_strict)
-  -- count UNIT [at OFFSET] [--strict]
-  count : {by : Clock} {more : List (List ℕ)} {is_strict : Bool} → CountWords words more by → StrictWords more is_strict
-      → RequestWords words (Count by is_strict)
+  -- count UNIT [at OFFSET] [--all] [--strict]
+  count : {by : Clock} {more : List (List ℕ)} {shows_all is_strict : Bool} → CountWords words more by shows_all → StrictWords more is_strict
+      → RequestWords words (Count by shows_all is_strict)
   -- utc [--strict], unix [--strict], at OFFSET [--strict], check [--all] [--strict], gaps DURATION [--strict]
   task : {work : Bool → Action} {more : List (List ℕ)} {is_strict : Bool} → FrontWords words more work → StrictWords more is_strict
       → RequestWords words (Work (work is_strict))
@@ -109,8 +114,8 @@ pub data MisuseWords (words : List (List ℕ)) : Misuse → Type 0 where
   after_version : {word : List ℕ} {more : List (List ℕ)} → words ≡ codes "--version" ∷ word ∷ more → MisuseWords words Extra
   after_merge : {word : List ℕ} {more : List (List ℕ)} → words ≡ codes "merge" ∷ word ∷ more → ¬ (word ∷ more ≡ codes "--strict" ∷ [])
       → MisuseWords words Extra
-  after_count : {by : Clock} {word : List ℕ} {more : List (List ℕ)} → CountWords words (word ∷ more) by → ¬ (word ∷ more ≡ codes "--strict" ∷ [])
-      → MisuseWords words Extra
+  after_count : {by : Clock} {shows_all : Bool} {word : List ℕ} {more : List (List ℕ)} → CountWords words (word ∷ more) by shows_all
+      → ¬ (word ∷ more ≡ codes "--strict" ∷ []) → MisuseWords words Extra
   after_task : {work : Bool → Action} {word : List ℕ} {more : List (List ℕ)} → FrontWords words (word ∷ more) work
       → ¬ (word ∷ more ≡ codes "--strict" ∷ []) → MisuseWords words Extra
   after_bound : {work : ℤ → Action} {word text other : List ℕ} {more : List (List ℕ)} {bound : ℤ} → BoundWord word work

@@ -25,9 +25,9 @@ pub enum Request {
     /// Merge files. If it is strict, a line that is earlier than the one before it in its file ends
     /// the run.
     Merge(bool),
-    /// Count lines. If it is strict, the first line without a stamp, or that goes back, ends the
-    /// run.
-    Count(Clock, bool),
+    /// Count lines, with a row for each unit without lines if all are asked for. If it is strict,
+    /// the first line without a stamp, or that goes back, ends the run.
+    Count(Clock, bool, bool),
 }
 
 /// The misuse of the words of the command line.
@@ -133,12 +133,17 @@ fn count_at(unit: Unit, words: &[&[u8]]) -> Result<Request, Misuse>
     }
 }
 
-// A count by a clock.
+// A count by a clock. With `--all` each unit without lines has a row.
 fn count_by(unit: Unit, offset: UtcOffset, words: &[&[u8]]) -> Result<Request, Misuse>
     ensures { result ≡ count_by unit offset (map (λ word. word.now) words.now) }
 {
-    let is_strict = strictness(words)?;
-    Ok(Request::Count(Clock { unit, offset }, is_strict))
+    let clock = Clock { unit, offset };
+    match words.split_first() {
+        Some((flag, rest)) if is(flag, "--all") => {
+            Ok(Request::Count(clock, true, strictness(rest)?))
+        }
+        _ => Ok(Request::Count(clock, false, strictness(words)?)),
+    }
 }
 
 // A request that no word follows.
@@ -300,25 +305,25 @@ pub fn misuse_line(misuse: Misuse) -> &'static str
     ensures { result.now ≡ misuse_text misuse }
 {
     match misuse {
-        Misuse::NoWord => "no word is given: begin with one of the words below",
-        Misuse::UnknownWord => "the first word is unknown: begin with one of the words below",
+        Misuse::NoWord => "no word is given: begin with one of those of the usage",
+        Misuse::UnknownWord => "the word '' is unknown",
         Misuse::NoOffset => "at has no offset: add one, as +05:30 or Z",
         Misuse::Offset(TextRefusal::Syntax) =>
-            "the offset has another form: write it as +05:30 or Z",
+            "the offset '' has another form: write it as +05:30 or Z",
         Misuse::Offset(TextRefusal::OutOfRange(_)) =>
-            "the offset is out of range: write one from -23:59 to +23:59",
+            "the offset '' is out of range: write one from -23:59 to +23:59",
         Misuse::NoInstant => "the bound is missing: add a date-time, as 2024-02-29T12:00:00Z",
         Misuse::Instant(TextRefusal::Syntax) =>
-            "the bound has another form: write a date-time, as 2024-02-29T12:00:00Z",
+            "the bound '' has another form: write a date-time, as 2024-02-29T12:00:00Z",
         Misuse::Instant(TextRefusal::OutOfRange(_)) =>
-            "the bound has a part that is out of range: write a date-time of the calendar",
+            "the bound '' has a part that is out of range: write a date-time of the calendar",
         Misuse::TooFine =>
-            "the bound has more than nine digits of a fraction: write nine at most, or 0 for each digit past the ninth",
+            "the bound '' has more than nine digits of a fraction: write nine at most, or 0 for each digit past the ninth",
         Misuse::NoUnit => "count has no unit: add minute, hour or day",
-        Misuse::Unit => "the unit is unknown: write minute, hour or day",
+        Misuse::Unit => "the unit '' is unknown: write minute, hour or day",
         Misuse::NoDuration => "gaps has no duration: add one, as 90s, 5m or 1h30m",
         Misuse::Duration =>
-            "the duration has another form: write whole numbers with d, h, m and s, as 1h30m",
-        Misuse::Extra => "a word is unknown or too many: leave it out",
+            "the duration '' has another form: write whole numbers with d, h, m and s, as 1h30m",
+        Misuse::Extra => "the word '' is unknown or too many",
     }
 }

@@ -1,34 +1,58 @@
 //! The reader that the first lines of a log choose.
-ghost use Rattle.std.specs.Prelude.{◌≡◌, map, option_map};
-ghost use Rattle.stamps.specs.Choosing.{any_plain, chosen, chosen_reader};
+ghost use Rattle.std.specs.Prelude.{◌≡◌, ◌+◌, ◌≤◌, IfOk, length, option_map};
+ghost use Rattle.log_forms.specs.Choices.{reader_form, reader_place};
+ghost use Rattle.stamps.specs.Choosing.{both_read, chosen_reader, is_plain, named_reader, reads, stamp_by};
 
-use crate::decide::stamp_of;
-use crate::readers::Reader;
-use crate::reading::{ReadingMisuse, offset_asked, place_text, whole_reader, year_asked};
-use log_forms::{choose, named_form, reader_form, reader_key, reader_place};
+use crate::readers::{PlaceText, Reader};
+use crate::reading::{
+    ReadingMisuse, offset_asked, place_text, plain_reader, whole_reader, year_asked,
+};
+use calendar_values::UtcOffset;
+use log_forms::{
+    Assumed, FormName, Place, Stamp, StampRefusal, choose, named_form, reader_form, reader_key,
+    reader_place, stamp_at,
+};
 
-/// The number of the form and the place for a log, by its first lines that are not empty. None if
-/// one of them begins with a date-time of RFC 3339, or no form has a stamp in them.
-#[tactic(auto, unfolding(crate::specs::Choosing::chosen))]
-pub fn chosen(lines: &[&[u8]]) -> Option<usize>
-    ensures { result ≡ chosen (map (λ line. line.now) lines.now) }
+/// Whether the reader that two lines choose reads a stamp in both.
+pub fn both_read(first: &[u8], second: &[u8]) -> bool
+    ensures { result ≡ both_read first.now second.now }
 {
-    if any_plain(lines) {
-        None
-    } else {
-        choose(lines)
+    match choose(&[first, second]) {
+        Some(number) => reads(number, first) && reads(number, second),
+        None => false,
     }
 }
 
-// Whether a line begins with a date-time of RFC 3339.
-#[tactic(auto, unfolding(crate::specs::Choosing::any_plain))]
-fn any_plain(lines: &[&[u8]]) -> bool
-    ensures { result ≡ any_plain (map (λ line. line.now) lines.now) }
+// Whether the reader of this number reads a stamp in a line.
+fn reads(number: usize, line: &[u8]) -> bool
+    ensures { result ≡ reads number line.now }
 {
-    match lines.split_first() {
-        Some((line, rest)) => stamp_of(line).is_ok() || any_plain(rest),
-        None => false,
-    }
+    stamp_by(number, line).is_ok()
+}
+
+/// The stamp that the reader of this number reads in a line.
+pub fn stamp_by(number: usize, line: &[u8]) -> Result<Stamp, StampRefusal>
+    ensures stamp { result ≡ stamp_by number line.now }
+    ensures within { IfOk result (λ stamp. stamp.start + stamp.length ≤ length line.now) }
+{
+    let assumed = Assumed {
+        offset: Some(UtcOffset::UTC),
+        year: Some(2_000),
+        month: 0,
+    };
+    let form = named_form(reader_form(number));
+    let key = reader_key(number).as_bytes();
+    stamp_at(&form, reader_place(number), key, &assumed, line)
+}
+
+/// Whether the reader of this number is that of RFC 3339 at the front.
+pub fn is_plain(number: usize) -> bool
+    ensures { result ≡ is_plain (reader_form number) (reader_place number) }
+{
+    matches!(
+        (reader_form(number), reader_place(number)),
+        (FormName::Rfc3339, Place::Front)
+    )
 }
 
 /// The reader of the form and the place of this number, with the values of `--offset` and `--year`,
@@ -44,5 +68,21 @@ pub fn chosen_reader(
     let (place, text) = place_text(reader_place(number), reader_key(number).as_bytes())?;
     let offset = offset_asked(offset)?;
     let year = year_asked(year)?;
-    whole_reader(named_form(reader_form(number)), place, text, offset, year)
+    named_reader(reader_form(number), place, text, offset, year)
+}
+
+// The reader of a form of this name at a place.
+fn named_reader(
+    name: FormName,
+    place: Place,
+    text: PlaceText,
+    offset: Option<UtcOffset>,
+    year: Option<i32>,
+) -> Result<Reader, ReadingMisuse>
+    ensures { result ≡ named_reader name place text offset year }
+{
+    match name {
+        FormName::Rfc3339 => plain_reader(place, text, offset, year),
+        name => whole_reader(named_form(name), place, text, offset, year),
+    }
 }

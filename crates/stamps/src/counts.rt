@@ -1,6 +1,7 @@
 //! The count of lines by the local clock.
 ghost use Rattle.std.specs.Prelude.{◌≡◌, ◌≤◌, pos, length};
-ghost use Rattle.stamps.specs.Buckets.{bucket_of, next_bucket, row_text, unit_nanos};
+ghost use Rattle.line_counts.specs.Counting.{empty_count, most};
+ghost use Rattle.stamps.specs.Buckets.{bucket_of, most_empty, next_bucket, row_text, text_in_place, unit_nanos};
 ghost use Rattle.stamps.specs.CountFaults.{count_status};
 ghost use Rattle.stamps.specs.LineInstants.{line_instant};
 ghost use Rattle.stamps.specs.Notes.{text_or_unix};
@@ -8,7 +9,7 @@ ghost use Rattle.stamps.specs.Styles.{text_in};
 ghost use Rattle.stamps.specs.declared.task.Style.TheVariants.{At};
 ghost use Rattle.offset_times.specs.Local.{local_multiple_below};
 
-use crate::files::{is_compressed, is_dashes};
+use crate::files::is_compressed;
 use crate::finding::{Cause, Finding};
 use crate::first_lines::{Given, reader_chosen};
 use crate::inputs::print_heading;
@@ -17,13 +18,16 @@ use crate::sources::{FAILED, Input, clear_progress, say, say_compressed, say_unw
 use crate::style::text_in;
 use crate::task::Style;
 use calendar_values::{SignedDuration, Text, UtcOffset};
-use line_counts::buckets::Buckets;
+use line_counts::buckets::{Buckets, steps_between};
 use line_counts::counts::count;
 use line_counts::tallies::CountFault;
 use line_devices::devices::Device;
 use offset_times::{OffsetDateTime, ToOffset};
 use rfc3339::to_unix_nanos;
 use utc_times::UtcDateTime;
+
+// The most units without lines one after another that have rows, where not all are asked for.
+const MOST_EMPTY: u64 = 10_000;
 
 /// The unit of buckets.
 #[derive(Clone, Copy, Debug, PartialEq, Eq)]
@@ -50,6 +54,8 @@ pub struct Clock {
 pub struct ClockBuckets {
     /// The clock.
     pub clock: Clock,
+    /// Whether each unit without lines has a row.
+    pub shows_all: bool,
     /// How stamps are read.
     pub reader: Reader,
 }
@@ -79,6 +85,18 @@ impl Buckets for ClockBuckets {
 
     fn row_of(&self, start: UtcDateTime, count: u64) -> Text {
         crate::counts::row_text(&self.clock, start, count)
+    }
+
+    fn count_between(&self, from: UtcDateTime, to: UtcDateTime) -> u64 {
+        crate::counts::buckets_between(&self.clock, from, to)
+    }
+
+    fn most_empty(&self) -> u64 {
+        crate::counts::most_empty(self.shows_all)
+    }
+
+    fn text_in_place(&self, count: u64) -> Text {
+        crate::counts::text_in_place(count)
     }
 
     ghost by_head = { counting-by_head };
@@ -128,6 +146,43 @@ fn next_bucket(clock: &Clock, start: UtcDateTime) -> UtcDateTime
     start.saturating_add(length_of(clock.unit))
 }
 
+// The number of the buckets from one on and before another.
+fn buckets_between(clock: &Clock, from: UtcDateTime, to: UtcDateTime) -> u64
+    ensures { result ≡ empty_count (next_bucket clock.now) most from to }
+{
+    steps_between(from, to, nanos_of(clock.unit))
+}
+
+// The nanoseconds of a unit.
+fn nanos_of(unit: Unit) -> u64
+    ensures value { result ≡ unit_nanos unit }
+    ensures least { 60000000000 ≤ result }
+{
+    match unit {
+        Unit::Minute => 60_000_000_000,
+        Unit::Hour => 3_600_000_000_000,
+        Unit::Day => 86_400_000_000_000,
+    }
+}
+
+// The most buckets without lines one after another that have rows.
+fn most_empty(shows_all: bool) -> u64
+    ensures { result ≡ most_empty shows_all }
+{
+    if shows_all { u64::MAX } else { MOST_EMPTY }
+}
+
+// The text in place of the rows of this number of buckets without lines.
+fn text_in_place(count: u64) -> Text
+    ensures { result ≡ text_in_place count }
+{
+    let mut text = Text::new();
+    text.push_bytes(b"... ");
+    text.push_decimal(count);
+    text.push_bytes(b" rows of 0\n");
+    text
+}
+
 // The length of a unit.
 fn length_of(unit: Unit) -> SignedDuration
     ensures { result ≡ pos (unit_nanos unit) }
@@ -171,10 +226,7 @@ pub fn run(
     words: &[String],
     files: &[String],
 ) -> u8 {
-    let names = match files.split_first() {
-        Some((dashes, rest)) if is_dashes(dashes.as_bytes()) => rest,
-        _ => files,
-    };
+    let names = files;
     for name in names {
         if is_compressed(name.as_bytes()) {
             say_compressed(rt, words, given.options, name);
@@ -222,6 +274,7 @@ fn run_input(
     let other = match own {
         Some(reader) => Some(ClockBuckets {
             clock: buckets.clock,
+            shows_all: buckets.shows_all,
             reader,
         }),
         None => None,
@@ -230,7 +283,7 @@ fn run_input(
         Some(other) => other,
         None => buckets,
     };
-    let shows_progress = input.shows_progress();
+    let shows_progress = input.inner().shows_progress();
     let mut writer = Device::new(rt.stdout());
     let ended = count(buckets, is_strict, &mut Device::new(input), &mut writer);
     if shows_progress {

@@ -6,7 +6,7 @@ ghost use Rattle.rfc3339.specs.Reading.{front_at};
 ghost use Rattle.rfc3339.specs.declared.refusal.TextRefusal.TheVariants.{Syntax};
 ghost use Rattle.stamps.specs.Decisions.{as_it_is, cause_of, check_line, decision_by, finding_at_end, first_state, gap_after, gap_line};
 ghost use Rattle.stamps.specs.Decisions.{as_note, going_on, stop_if};
-ghost use Rattle.stamps.specs.Decisions.{goes_on, is_earlier, is_first, last_of, rewritten, state_after, state_by};
+ghost use Rattle.stamps.specs.Decisions.{goes_on, is_earlier, is_first, last_of, later_of, latest_of, rewritten, state_after, state_by};
 ghost use Rattle.stamps.specs.LineInstants.{stamp_instant};
 ghost use Rattle.stamps.specs.LineStamps.{ends, front_stamp, has_mark, is_continued};
 ghost use Rattle.stamps.specs.LineStamps.{opens_bracket, stamp, stamp_of};
@@ -18,9 +18,10 @@ ghost use Rattle.stamps.specs.declared.decide.State.{State};
 use crate::finding::{Cause, Finding};
 use crate::notes::Note;
 use crate::readers::{LineRefusal, LineStamp, line_stamp};
-use crate::style::text_in;
+use crate::style::stamp_text;
 use crate::task::{Action, Style, Task};
 use calendar_values::{SignedDuration, Text};
+use line_devices::stamp_tallies::{LineKind, StampTally, kind_of};
 use log_forms::continues;
 use offset_times::OffsetDateTime;
 use rfc3339::{TextRefusal, parse_rfc3339_front, syntax_fault};
@@ -57,8 +58,12 @@ pub struct State {
     pub lines: u64,
     /// The instant of the last stamp.
     pub last: Option<UtcDateTime>,
+    /// The latest of the instants, where the task asks for gaps.
+    pub latest: Option<UtcDateTime>,
     /// Whether the last line is written, where the task asks for some lines alone.
     pub goes_on: bool,
+    /// How many of them have no stamp.
+    pub tally: StampTally,
 }
 
 /// The decision on a line.
@@ -82,7 +87,9 @@ pub fn first_state(task: &Task) -> State
     State {
         lines: 0,
         last: None,
+        latest: None,
         goes_on: matches!(task.action, Action::Until(_)),
+        tally: StampTally::new(),
     }
 }
 
@@ -95,21 +102,23 @@ pub fn read_stamp(task: &Task, state: &mut State, line: &[u8]) -> Result<LineSta
     ensures state { state.new ≡ state_after task.now state.old line.now }
 {
     let stamp = line_stamp(&task.reader, state.last, state.lines == 0, line);
-    *state = state_by(&task.action, state, &stamp);
+    let kind = kind_of(line, stamp.is_ok());
+    *state = state_by(&task.action, state, kind, &stamp);
     stamp
 }
 
-/// The style in which a stamp is written anew, if it is. Then the decision keeps the line with the
-/// text in that style, if there is one.
+/// The style in which a stamp is written anew, if it is one and no value of JSON. Then the decision
+/// keeps the line with the text in that style, if there is one.
 #[inline(always)]
 pub fn style_of<'a>(action: &'a Action, stamp: &LineStamp) -> Option<&'a Style>
-    ensures { IfSome result (λ style. (last : Option ℤ) (after : State) (text : List ℕ)
+    ensures { IfSome result (λ style. (before after : State) (text : List ℕ)
         → text_in style.now stamp.now.instant ≡ Some text
-        → decision_by action.now last after (Ok stamp.now)
+        → decision_by action.now before after (Ok stamp.now)
         ≡ Keep stamp.now.start text stamp.now.length) }
 {
     match action {
-        Action::Write(style, is_strict) if !(*is_strict && stamp.is_zoned) => Some(style),
+        Action::Write(style, is_strict) if !(stamp.is_value || *is_strict && stamp.is_zoned) =>
+            Some(style),
         _ => None,
     }
 }
@@ -135,34 +144,46 @@ pub(crate) fn has_mark(is_first: bool, line: &[u8]) -> bool
     is_first && line.starts_with(&BYTE_ORDER_MARK)
 }
 
-/// The decision on a line with this stamp, by the last instant before it and the state after it.
+/// The decision on a line with this stamp, by the states before and after it.
 #[inline(always)]
 pub fn decision_by(
     action: &Action,
-    last: Option<UtcDateTime>,
+    before: &State,
     after: &State,
     stamp: &Result<LineStamp, LineRefusal>,
 ) -> Decision
-    ensures { result ≡ decision_by action.now last after.now stamp.now }
+    ensures { result ≡ decision_by action.now before.now after.now stamp.now }
 {
     match action {
         Action::Write(style, is_strict) => rewritten(style, *is_strict, after.lines, stamp),
-        Action::Check(is_strict) => check_line(*is_strict, after.lines, last, stamp),
-        Action::CheckAll(is_strict) => as_note(check_line(*is_strict, after.lines, last, stamp)),
-        Action::Gaps(limit, is_strict) => gap_line(*limit, *is_strict, after.lines, last, stamp),
+        Action::Check(is_strict) => check_line(*is_strict, after.lines, before.last, stamp),
+        Action::CheckAll(is_strict) => {
+            as_note(check_line(*is_strict, after.lines, before.last, stamp))
+        }
+        Action::Gaps(limit, is_strict) => {
+            gap_line(*limit, *is_strict, after.lines, before.latest, stamp)
+        }
         Action::Since(_) | Action::Until(_) => going_on(after.goes_on),
     }
 }
 
-// What is known after a line with this stamp.
+// What is known after a line of this kind with this stamp.
 #[inline(always)]
-fn state_by(action: &Action, state: &State, stamp: &Result<LineStamp, LineRefusal>) -> State
-    ensures { result ≡ state_by action.now state.now stamp.now }
+fn state_by(
+    action: &Action,
+    state: &State,
+    kind: LineKind,
+    stamp: &Result<LineStamp, LineRefusal>,
+) -> State
+    ensures { result ≡ state_by action.now state.now kind stamp.now }
 {
+    let lines = state.lines.saturating_add(1);
     State {
-        lines: state.lines.saturating_add(1),
+        lines,
         last: last_of(state.last, stamp),
+        latest: latest_of(action, state.latest, stamp),
         goes_on: goes_on(action, state.goes_on, stamp),
+        tally: state.tally.after(lines, kind),
     }
 }
 
@@ -174,6 +195,31 @@ fn last_of(last: Option<UtcDateTime>, stamp: &Result<LineStamp, LineRefusal>) ->
     match stamp {
         Ok(stamp) => Some(stamp.instant),
         Err(_) => last,
+    }
+}
+
+// The latest instant, where the task asks for gaps.
+#[inline(always)]
+fn latest_of(
+    action: &Action,
+    latest: Option<UtcDateTime>,
+    stamp: &Result<LineStamp, LineRefusal>,
+) -> Option<UtcDateTime>
+    ensures { result ≡ latest_of action.now latest stamp.now }
+{
+    match (action, stamp) {
+        (Action::Gaps(_, _), Ok(stamp)) => Some(later_of(latest, stamp.instant)),
+        _ => latest,
+    }
+}
+
+// The later of two instants, of which there may be one.
+fn later_of(latest: Option<UtcDateTime>, at: UtcDateTime) -> UtcDateTime
+    ensures { result ≡ later_of latest at }
+{
+    match latest {
+        Some(before) if at < before => before,
+        _ => at,
     }
 }
 
@@ -189,7 +235,7 @@ pub(crate) fn stamp_of(text: &[u8]) -> Result<Stamp, TextRefusal>
 // As many bytes of a text as are looked at for a stamp.
 #[tactic(auto, using(crate::proofs::LongLineLemmas::fronts))]
 #[inline(always)]
-fn front_of(text: &[u8]) -> &[u8]
+pub(crate) fn front_of(text: &[u8]) -> &[u8]
     ensures { result.now ≡ take 1024 text.now }
 {
     if text.len() <= LONGEST_FRONT {
@@ -274,7 +320,7 @@ fn refusal_before(front: &[u8], refusal: TextRefusal) -> Result<Stamp, TextRefus
 
 // The byte at a place of a text, if there is one.
 #[inline(always)]
-fn byte_at(text: &[u8], place: usize) -> Option<u8>
+pub(crate) fn byte_at(text: &[u8], place: usize) -> Option<u8>
     ensures { result ≡ slice_get text.now place }
 {
     text.get(place).copied()
@@ -338,7 +384,7 @@ fn rewritten(
             line,
             Cause::Zone,
         )),
-        Ok(stamp) => match text_in(style, stamp.instant) {
+        Ok(stamp) => match stamp_text(style, stamp) {
             Some(text) => Decision::Keep(stamp.start, text, stamp.length),
             None => as_it_is(is_strict, line, Cause::NoText),
         },
@@ -407,17 +453,17 @@ fn as_note(decision: Decision) -> Decision
     }
 }
 
-// A note where too much time passed before the line.
+// A note where too much time passed before the line, since the latest instant before it.
 fn gap_line(
     limit: SignedDuration,
     is_strict: bool,
     line: u64,
-    last: Option<UtcDateTime>,
+    latest: Option<UtcDateTime>,
     stamp: &Result<LineStamp, LineRefusal>,
 ) -> Decision
-    ensures { result ≡ gap_line limit is_strict line last stamp.now }
+    ensures { result ≡ gap_line limit is_strict line latest stamp.now }
 {
-    match (stamp, last) {
+    match (stamp, latest) {
         (Ok(stamp), Some(before)) => gap_after(limit, is_strict, line, before, stamp.instant),
         (Ok(_), None) => Decision::Skip,
         (Err(refusal), _) => stop_if(is_strict, line, cause_of(*refusal)),

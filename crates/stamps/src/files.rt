@@ -1,80 +1,48 @@
-//! Which words of the command line are files.
-ghost use Rattle.std.specs.Prelude.{◌≡◌, ◌≤◌, drop, length, map};
-ghost use Rattle.stamps.specs.Files.{behind_offset, behind_options, files_of, is_compressed, is_dashes, is_option, takes_files, takes_value};
+//! Which words of the command line are files, and which files are no text.
+ghost use Rattle.std.specs.Prelude.{◌≡◌, map};
+ghost use Rattle.stamps.specs.Files.{begins_at, count_length, front_length, is_compressed, is_dashes};
+ghost use Rattle.stamps.specs.Files.{is_option, opens_block, packing_of, takes_files, takes_value};
 
 use crate::arguments::is;
 
-/// The words that are files: those from the first on that is no option, after a word that takes
-/// files and after its value. The first of them may be `--`, which is no file.
-#[tactic(auto, unfolding(crate::specs::Files::files_of))]
-pub fn files_of<'a>(words: &'a [&'a [u8]]) -> &'a [&'a [u8]]
-    ensures value { map (λ word. word.now) result.now
-        ≡ files_of (map (λ word. word.now) words.now) }
-    ensures length { length result.now ≤ length words.now }
+/// The number of the words of a request that come before its options and files: the first word and
+/// its values, or all where no files may follow.
+#[tactic(auto, unfolding(crate::specs::Files::front_length))]
+pub fn front_length(words: &[&[u8]]) -> usize
+    ensures { result ≡ front_length (map (λ word. word.now) words.now) }
 {
     let Some((word, rest)) = words.split_first() else {
-        return words;
+        return 0;
     };
     if takes_value(word) {
-        return behind_value(rest);
+        return 2;
     }
     if takes_files(word) {
-        return behind_options(rest);
+        return 1;
     }
     if is(word, "count") {
-        return behind_options(behind_offset(behind_one(rest)));
+        return count_length(rest);
     }
-    &rest[rest.len()..]
+    words.len()
 }
 
-// The words after the first.
-fn behind_one<'a>(words: &'a [&'a [u8]]) -> &'a [&'a [u8]]
-    ensures value { map (λ word. word.now) result.now
-        ≡ drop 1 (map (λ word. word.now) words.now) }
-    ensures length { length result.now ≤ length words.now }
+// The number of the words of a count before its options and files, by those after the first.
+fn count_length(words: &[&[u8]]) -> usize
+    ensures { result ≡ count_length (map (λ word. word.now) words.now) }
 {
     let Some((_, rest)) = words.split_first() else {
-        return words;
+        return 2;
     };
-    rest
+    if begins_at(rest) { 4 } else { 2 }
 }
 
-// The words after `at` and its offset, if they begin with it.
-fn behind_offset<'a>(words: &'a [&'a [u8]]) -> &'a [&'a [u8]]
-    ensures value { map (λ word. word.now) result.now
-        ≡ behind_offset (map (λ word. word.now) words.now) }
-    ensures length { length result.now ≤ length words.now }
-{
-    let Some((word, rest)) = words.split_first() else {
-        return words;
-    };
-    if is(word, "at") {
-        return behind_one(rest);
-    }
-    words
-}
-
-// The words after a value, from the first on that is no option.
-fn behind_value<'a>(words: &'a [&'a [u8]]) -> &'a [&'a [u8]]
-    ensures value { map (λ word. word.now) result.now
-        ≡ behind_options (drop 1 (map (λ word. word.now) words.now)) }
-    ensures length { length result.now ≤ length words.now }
+// Whether `at` is the first of some words.
+fn begins_at(words: &[&[u8]]) -> bool
+    ensures { result ≡ begins_at (map (λ word. word.now) words.now) }
 {
     match words.split_first() {
-        Some((_, rest)) => behind_options(rest),
-        None => words,
-    }
-}
-
-// The words from the first on that is no option.
-fn behind_options<'a>(words: &'a [&'a [u8]]) -> &'a [&'a [u8]]
-    ensures value { map (λ word. word.now) result.now
-        ≡ behind_options (map (λ word. word.now) words.now) }
-    ensures length { length result.now ≤ length words.now }
-{
-    match words.split_first() {
-        Some((word, rest)) if is_option(word) => behind_options(rest),
-        _ => words,
+        Some((word, _)) => is(word, "at"),
+        None => false,
     }
 }
 
@@ -114,4 +82,52 @@ pub fn is_compressed(name: &[u8]) -> bool
     ensures { result ≡ is_compressed name.now }
 {
     name.ends_with(b".gz")
+}
+
+/// How the bytes of an input are packed, where they are no lines of text.
+#[derive(Clone, Copy, Debug, PartialEq, Eq)]
+pub enum Packing {
+    /// By gzip.
+    Gzip,
+    /// By zstd.
+    Zstd,
+    /// By xz.
+    Xz,
+    /// By bzip2.
+    Bzip2,
+    /// As text of UTF-16.
+    Utf16,
+}
+
+/// The most bytes that tell a packing.
+pub const LONGEST_SIGN: usize = 5;
+
+/// The packing of an input by its first bytes, if it has one.
+#[tactic(auto, unfolding(crate::specs::Files::packing_of))]
+pub fn packing_of(head: &[u8]) -> Option<Packing>
+    ensures { result ≡ packing_of head.now }
+{
+    if head.starts_with(&[0x1F, 0x8B]) {
+        Some(Packing::Gzip)
+    } else if head.starts_with(&[0x28, 0xB5, 0x2F, 0xFD]) {
+        Some(Packing::Zstd)
+    } else if head.starts_with(&[0xFD, b'7', b'z', b'X', b'Z']) {
+        Some(Packing::Xz)
+    } else if head.starts_with(b"BZh") && opens_block(head.get(4).copied()) {
+        Some(Packing::Bzip2)
+    } else if head.starts_with(&[0xFF, 0xFE]) || head.starts_with(&[0xFE, 0xFF]) {
+        Some(Packing::Utf16)
+    } else {
+        None
+    }
+}
+
+// Whether a byte opens a block of bzip2, or ends a file of it.
+fn opens_block(byte: Option<u8>) -> bool
+    ensures { result ≡ opens_block byte }
+{
+    match byte {
+        Some(byte) => byte == 0x31 || byte == 0x17,
+        None => false,
+    }
 }

@@ -1,15 +1,16 @@
 //! The reader of stamps that the first lines of an input choose.
 
-use crate::choosing::{chosen, chosen_reader};
-use crate::readers::{LineRefusal, Reader, line_stamp, mark_length};
+use crate::ahead::{Ahead, MOST_AHEAD};
+use crate::choosing::{chosen_reader, is_plain};
+use crate::files::{LONGEST_SIGN, packing_of};
+use crate::leading::{Leading, Look};
+use crate::nearest::say_bare;
+use crate::readers::{Reader, mark_length};
 use crate::reading::reading_line;
-use crate::sources::{FAILED, Input, say};
-use line_devices::places::place_of;
+use crate::sources::{FAILED, say, say_packed};
 use log_forms::{Place, form_name, reader_form, reader_key, reader_place};
 use std::alloc::AllocError;
-
-// The most of the first lines by which a form is chosen.
-const MOST_LINES: usize = 16;
+use std::io::Read;
 
 /// How stamps are read, as far as words say it, where the first lines of a log choose their form.
 #[derive(Clone, Copy)]
@@ -20,37 +21,62 @@ pub struct Given<'a> {
     pub offset: Option<&'a [u8]>,
     /// The value of `--year`.
     pub year: Option<&'a [u8]>,
+    /// Whether notes are left out.
+    pub is_quiet: bool,
+    /// The words before the files.
+    pub words: &'a [String],
     /// The options with their values, as they are given.
     pub options: &'a [String],
 }
 
-/// The reader that the first lines of an input choose, if they choose another than RFC 3339 at the
-/// front. Prints its form and place, or that no line has a stamp, with the name of the input. Fails
-/// with the exit status if the form needs an option that is not given.
-pub fn reader_chosen(
+/// The reader that the first lines of an input choose, if no word names one. Prints its form and
+/// place, or that no line has a stamp, with the name of the input. Fails with the exit status if
+/// the input is no text, or if the form needs an option that is not given.
+pub fn reader_chosen<R: Read>(
     rt: &HostRuntime,
     given: Given<'_>,
     reader: &Reader,
     said: &str,
-    input: &mut Input<'_>,
+    input: &mut Ahead<R>,
 ) -> Result<Option<Reader>, u8> {
-    let Ok(look) = look_at(rt, given.chooses, reader, input) else {
-        say(rt, said, "no memory is left");
+    let Ok(is_whole) = read_sign(input) else {
+        return Err(fail_in_memory(rt, said));
+    };
+    if let Some(packing) = packing_of(input.head()) {
+        say_packed(rt, given.words, given.options, said, packing);
         return Err(FAILED);
+    }
+    let Ok(look) = look_at(given.chooses, reader, input, is_whole) else {
+        return Err(fail_in_memory(rt, said));
     };
-    let number = match look {
-        Look::Chosen(number) => number,
-        Look::Readable => return Ok(None),
+    match look {
+        Look::Chosen(number) => reader_numbered(rt, given, said, number),
+        Look::Readable => Ok(None),
         Look::Bare => {
-            say(
-                rt,
-                said,
-                "the first lines have no stamp: name the form by --form, and the place by --at",
-            );
-            return Ok(None);
+            if !given.is_quiet {
+                say_bare(rt, said, given.chooses, first_block(input.head()));
+            }
+            Ok(None)
         }
-    };
-    say_choice(rt, said, number);
+    }
+}
+
+// Says that no memory is left, and returns the exit status.
+fn fail_in_memory(rt: &HostRuntime, said: &str) -> u8 {
+    say(rt, said, "no memory is left");
+    FAILED
+}
+
+// The reader of the form and the place with this number, which it prints.
+fn reader_numbered(
+    rt: &HostRuntime,
+    given: Given<'_>,
+    said: &str,
+    number: usize,
+) -> Result<Option<Reader>, u8> {
+    if !is_plain(number) && !given.is_quiet {
+        say_choice(rt, said, number);
+    }
     match chosen_reader(number, given.offset, given.year) {
         Ok(reader) => Ok(Some(reader)),
         Err(misuse) => {
@@ -60,95 +86,67 @@ pub fn reader_chosen(
     }
 }
 
-// What the first lines of an input have.
-#[derive(Clone, Copy)]
-enum Look {
-    // Stamps of the form and the place with this number.
-    Chosen(usize),
-    // A stamp that the reader reads, or no line that ends.
-    Readable,
-    // No stamp.
-    Bare,
+// Reads as many bytes as tell that an input is no text. Returns whether it has no more.
+fn read_sign<R: Read>(input: &mut Ahead<R>) -> Result<bool, AllocError> {
+    for _ in 0..LONGEST_SIGN {
+        if input.head().len() >= LONGEST_SIGN {
+            return Ok(false);
+        }
+        if input.read_on()? == 0 {
+            return Ok(true);
+        }
+    }
+    Ok(false)
 }
 
-// What the first lines of an input have, for a reader. They may choose another than RFC 3339 at the front.
-fn look_at(
-    rt: &HostRuntime,
+// Looks at the first lines of an input, and reads on until they tell its reader.
+fn look_at<R: Read>(
     chooses: bool,
     reader: &Reader,
-    input: &mut Input<'_>,
+    input: &mut Ahead<R>,
+    is_whole: bool,
 ) -> Result<Look, AllocError> {
-    let head = input.first_bytes()?;
-    let head = &head[mark_length(true, head)..];
-    if chooses {
-        if let Some(number) = number_of(rt, head)? {
-            return Ok(Look::Chosen(number));
+    let mut lines = Leading::new(chooses, mark_length(true, input.head()));
+    let mut is_whole = is_whole;
+    for _ in 0..=MOST_AHEAD {
+        let head = first_block(input.head());
+        if lines.look_on(reader, head) || head.len() >= MOST_AHEAD || is_whole {
+            break;
         }
+        is_whole = input.read_on()? == 0;
     }
-    Ok(if is_bare(reader, head) {
-        Look::Bare
-    } else {
-        Look::Readable
-    })
+    let head = first_block(input.head());
+    if is_whole && !input.has_fault() || lines.is_first() && head.len() >= MOST_AHEAD {
+        lines.end(reader, head);
+    }
+    Ok(lines.look(head))
 }
 
-// The number of the form and the place that the first lines of some bytes choose, if they choose another than RFC 3339 at the front.
-fn number_of(rt: &HostRuntime, head: &[u8]) -> Result<Option<usize>, AllocError> {
-    let mut lines = Vec::new(rt.alloc());
-    let mut place = 0;
-    for _ in 0..MOST_LINES {
-        if place >= head.len() {
-            break;
-        }
-        let end = place_of(b'\n', head, place);
-        if end >= head.len() {
-            if lines.is_empty() {
-                lines.push(&head[place..])?;
-            }
-            break;
-        }
-        if end > place {
-            lines.push(&head[place..end])?;
-        }
-        place = end + 1;
+// The first bytes of a head, which are looked at.
+fn first_block(head: &[u8]) -> &[u8] {
+    match head.get(..MOST_AHEAD) {
+        Some(block) => block,
+        None => head,
     }
-    Ok(chosen(lines.as_slice()))
-}
-
-// Whether some bytes have a line that ends, and no line with a stamp that the reader reads or refuses.
-fn is_bare(reader: &Reader, head: &[u8]) -> bool {
-    let mut place = 0;
-    let mut ends = false;
-    for _ in 0..head.len() {
-        if place >= head.len() {
-            break;
-        }
-        let end = place_of(b'\n', head, place);
-        let line = &head[place..end];
-        match line_stamp(reader, None, false, line) {
-            Err(LineRefusal::Absent) => {}
-            Ok(_) | Err(LineRefusal::OutOfRange(_) | LineRefusal::Part(_)) => return false,
-        }
-        if end >= head.len() {
-            break;
-        }
-        ends |= end > place;
-        place = end + 1;
-    }
-    ends
 }
 
 // Says which form and place were chosen.
 fn say_choice(rt: &HostRuntime, said: &str, number: usize) {
+    if let Ok(line) = choice_text(rt, number) {
+        say(rt, said, line.as_str());
+    }
+}
+
+// The form and the place of a number.
+fn choice_text(rt: &HostRuntime, number: usize) -> Result<String, AllocError> {
     let form = form_name(reader_form(number));
     let key = reader_key(number);
-    let line = match reader_place(number) {
+    match reader_place(number) {
         Place::Front => format!(in rt.alloc(); "{form} at front"),
         Place::Field(field) => format!(in rt.alloc(); "{form} at field:{field}"),
         Place::After => format!(in rt.alloc(); "{form} at after:{key}"),
         Place::Json => format!(in rt.alloc(); "{form} at json:{key}"),
-    };
-    if let Ok(line) = line {
-        say(rt, said, line.as_str());
+        Place::Access => format!(in rt.alloc(); "{form} at access"),
+        Place::Coloured => format!(in rt.alloc(); "{form} at coloured"),
     }
 }

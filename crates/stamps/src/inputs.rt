@@ -1,14 +1,15 @@
 //! The task on standard input, or on files one after another.
 ghost use Rattle.std.specs.Prelude.{◌≡◌, false};
 ghost use Rattle.line_devices.specs.Device.{has_failed};
-ghost use Rattle.stamps.specs.Tasks.{reports, tells};
+ghost use Rattle.stamps.specs.Tasks.{checks, ends_at_finding, tells};
 
-use crate::files::{is_compressed, is_dashes};
+use crate::files::is_compressed;
 use crate::first_lines::{Given, reader_chosen};
 use crate::sources::{
     FAILED, Input, clear_progress, print_line, say, say_compressed, say_unwritten,
 };
 use crate::stamps::{StampFault, stamps, status_of};
+use crate::tallies::tell_tally;
 use crate::task::{Action, Task};
 use line_devices::devices::{Device, Sink, Source};
 use std::io::Write;
@@ -22,10 +23,7 @@ pub fn run(
     words: &[String],
     files: &[String],
 ) -> u8 {
-    let names = match files.split_first() {
-        Some((dashes, rest)) if is_dashes(dashes.as_bytes()) => rest,
-        _ => files,
-    };
+    let names = files;
     for name in names {
         if is_compressed(name.as_bytes()) {
             say_compressed(rt, words, given.options, name);
@@ -38,8 +36,8 @@ pub fn run(
     run_files(rt, task, given, names)
 }
 
-// Does the task on one file after another. A task that reports lines continues with the next file
-// after a report. If it writes its reports, a heading names each of several files.
+// Does the task on one file after another. A task that writes stamps and is strict ends at its first
+// finding. If a task writes its reports, a heading names each of several files.
 fn run_files(rt: &HostRuntime, task: &Task, given: Given<'_>, names: &[String]) -> u8 {
     let mut writer = Device::new(rt.stdout());
     let mut status = 0;
@@ -57,7 +55,7 @@ fn run_files(rt: &HostRuntime, task: &Task, given: Given<'_>, names: &[String]) 
         if ended != 0 {
             status = ended;
         }
-        if ended > 1 || ended == 1 && !reports(task) {
+        if ended > 1 || ended == 1 && ends_at_finding(task) {
             return ended;
         }
     }
@@ -82,11 +80,18 @@ fn tells(task: &Task) -> bool
     matches!(task.action, Action::CheckAll(_) | Action::Gaps(_, _))
 }
 
-// Whether the task reports lines.
-fn reports(task: &Task) -> bool
-    ensures { result ≡ reports task.now.action }
+// Whether the task checks lines, and so tells itself of those without a stamp.
+fn checks(task: &Task) -> bool
+    ensures { result ≡ checks task.now.action }
 {
-    tells(task) || matches!(task.action, Action::Check(_))
+    matches!(task.action, Action::Check(_) | Action::CheckAll(_))
+}
+
+// Whether a finding in one file ends the work on all: its line would be missing in the output.
+fn ends_at_finding(task: &Task) -> bool
+    ensures { result ≡ ends_at_finding task.now.action }
+{
+    matches!(task.action, Action::Write(_, true))
 }
 
 // Does the task on a file. If the output ends within a line, it first ends that.
@@ -132,16 +137,18 @@ fn run_input<T: Write>(
         Some(other) => other,
         None => task,
     };
-    let shows_progress = input.shows_progress();
+    let shows_progress = input.inner().shows_progress();
     let ended = stamps(task, &mut Device::new(input), writer);
     if shows_progress {
         clear_progress(rt);
     }
+    let mut is_poor = false;
     match &ended {
-        Ok(()) => {}
+        Ok(_) if checks(task) => {}
+        Ok(tally) => is_poor = tell_tally(rt, said, tally, given.is_quiet) > 0,
         Err(StampFault::Read) => say(rt, said, "read failed"),
         Err(StampFault::Write) => return say_unwritten(rt, said, writer),
         Err(StampFault::Found(found)) => say(rt, said, found.text().as_str()),
     }
-    status_of(&ended, tells(task) && writer.has_written())
+    status_of(&ended, is_poor || tells(task) && writer.has_written())
 }

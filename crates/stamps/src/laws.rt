@@ -1,8 +1,8 @@
 //! Laws of the definitions that the contract of `stamps` cites: each function here proves one, for
 //! all inputs, and does nothing when it is called.
 ghost use Rattle.stamps.specs.BoundLaws.{BoundsAreExact};
-ghost use Rattle.stamps.specs.Laws.{CheckTellsTheOrder, LinesAreWrittenAlone, SinceAndUntilCutInTwo, StampsAreDateTimes};
-ghost use Rattle.stamps.specs.Laws.{UtcTwiceIsOnce, WrittenLinesKeepTheOrder};
+ghost use Rattle.stamps.specs.Laws.{CheckTellsTheOrder, GapsTellSilences, LinesAreWrittenAlone, SinceAndUntilCutInTwo, StampsAreDateTimes};
+ghost use Rattle.stamps.specs.Laws.{UtcTwiceIsOnce, ValuesStayValues, WrittenLinesKeepTheOrder};
 ghost use Rattle.stamps.specs.Usage.{WordsAskAsTheUsageSays};
 
 /// A text has the stamp that it is read with, and no other: a date-time of RFC 3339 that ends
@@ -36,10 +36,22 @@ pub fn check_tells_the_order()
     ensures { CheckTellsTheOrder }
 {}
 
+/// `gaps` tells exactly the lines whose instant is later than each instant before it by more than
+/// the limit, unless the task is strict, and how long the time since the latest of these was.
+pub fn gaps_tell_silences()
+    ensures { GapsTellSilences }
+{}
+
 /// A stamp written in UTC has the instant of the one that it replaces, what follows it stays, and a
 /// line written twice is as written once.
 pub fn utc_twice_is_once()
     ensures { UtcTwiceIsOnce }
+{}
+
+/// A date in place of a value of JSON is in quotes, and Unix seconds are not: the quotes of a text
+/// go with it.
+pub fn values_stay_values()
+    ensures { ValuesStayValues }
 {}
 
 /// Lines that have a text in UTC are, written there, in the order of bytes in which their instants

@@ -246,7 +246,7 @@ pub fn finish<W: Sink>(
 ) -> Result<(), LineFault>
     ensures completes { IsOk result → (base : Option (List ℕ)) (taken : List ℕ)
         → Stands task.now base (W.written writer.old) pending.old work.old taken
-        → Completes task.now base (W.written writer.new) taken }
+        → Completes task.now base (W.written writer.new) work.new taken }
     ensures ends { IfErr result (λ fault. (base : Option (List ℕ)) (taken : List ℕ)
         → Stands task.now base (W.written writer.old) pending.old work.old taken
         → Ends task.now base (W.written writer.new) fault taken) }
@@ -330,7 +330,7 @@ fn begin<W: Sink>(
         (W.written writer.old) (W.written writer.new) pending.old pending.new line.now }
     ensures mark { W.is_marked writer.new ≡ mark_after result (W.is_marked writer.old) }
 {
-    let last = state.last;
+    let before = *state;
     let stamp = read_stamp(task, state, line);
     // A text that replaces a stamp is sent from where it was written.
     if let Ok(stamp) = &stamp {
@@ -341,7 +341,7 @@ fn begin<W: Sink>(
             }
         }
     }
-    match decision_by(&task.action, last, state, &stamp) {
+    match decision_by(&task.action, &before, state, &stamp) {
         Decision::Keep(start, text, count) => {
             keep_text(writer, pending, line, start, text.as_bytes(), count)
         }

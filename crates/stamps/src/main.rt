@@ -1,6 +1,7 @@
 //! Reads lines that begin with stamps of RFC 3339, and writes them as the command line asks for.
 #![tactic(auto)]
 
+mod ahead;
 mod arguments;
 mod choosing;
 mod counts;
@@ -12,24 +13,29 @@ mod first_lines;
 mod inputs;
 mod instants;
 mod laws;
+mod leading;
 mod lines;
 mod merges;
+mod nearest;
 mod notes;
 mod readers;
 mod reading;
 mod sources;
 mod stamps;
 mod style;
+mod tallies;
 mod task;
 mod usage;
 
-use arguments::{Misuse, Request, misuse_line, request_of};
+use arguments::{Misuse, Request, is, misuse_line, request_of};
 use counts::ClockBuckets;
-use files::{files_of, is_dashes, is_option};
+use files::{front_length, is_dashes, is_option};
 use first_lines::Given;
 use log_forms::{FORMS, form_name, sample_of};
 use readers::Reader;
-use reading::{ReadingMisuse, Step, reader_of, reading_line, step_after, twice_of};
+use reading::{
+    ReadingMisuse, Step, is_valued, kind_of, reader_of, reading_line, step_after, twice_of,
+};
 use sources::{FAILED, print_line, say};
 use std::alloc::AllocError;
 use std::process::ExitCode;
@@ -42,11 +48,17 @@ const VERSION_LINE: &str = "stamps 0.1.0";
 
 fn main(rt: HostRuntime) -> ExitCode {
     let Ok(given) = words_given(&rt) else {
-        return report_misuse(&rt, "a word is no text of UTF-8: use the words below");
+        return report_misuse(
+            &rt,
+            "a word is no text of UTF-8: rename the file, or read it by <",
+            "",
+        );
     };
     match sort(&rt, given) {
-        Ok(Sorted::Words(words, asked)) => obey(&rt, words.as_slice(), &asked),
-        Ok(Sorted::Misuse(text)) => report_misuse(&rt, text),
+        Ok(Sorted::Words(words, files, asked)) => {
+            obey(&rt, words.as_slice(), files.as_slice(), &asked)
+        }
+        Ok(Sorted::Misuse(text, word)) => report_misuse(&rt, text, word.as_str()),
         Ok(Sorted::Forms) => ExitCode::from(list_forms(&rt)),
         Err(_) => {
             say(&rt, "", "no memory is left");
@@ -59,9 +71,10 @@ fn main(rt: HostRuntime) -> ExitCode {
 #[derive(Drop)]
 struct Asked {
     form: Option<String>,
-    at: Option<String>,
+    place: Option<String>,
     offset: Option<String>,
     year: Option<String>,
+    is_quiet: bool,
     options: Vec<String>,
 }
 
@@ -70,7 +83,7 @@ impl Asked {
     fn keep(&mut self, option: Step, word: String) -> bool {
         let value = match option {
             Step::Form => &mut self.form,
-            Step::At => &mut self.at,
+            Step::Place => &mut self.place,
             Step::Offset => &mut self.offset,
             _ => &mut self.year,
         };
@@ -81,17 +94,17 @@ impl Asked {
 
     // Whether they say anything.
     fn is_any(&self) -> bool {
-        self.form.is_some() || self.at.is_some() || self.offset.is_some() || self.year.is_some()
+        self.form.is_some() || self.place.is_some() || self.offset.is_some() || self.year.is_some()
     }
 }
 
 // The words, sorted.
 #[derive(Drop)]
 enum Sorted {
-    // Those that say nothing of how stamps are read, and what the others say.
-    Words(Vec<String>, Asked),
-    // A misuse, by its text.
-    Misuse(&'static str),
+    // Those of the request, the files, and what the others say of how stamps are read.
+    Words(Vec<String>, Vec<String>, Asked),
+    // A misuse, by its text, and the word that is wrong.
+    Misuse(&'static str, String),
     // The list of the forms is asked for.
     Forms,
 }
@@ -101,41 +114,97 @@ fn sort(rt: &HostRuntime, given: Vec<String>) -> Result<Sorted, AllocError> {
     let mut words = Vec::new(rt.alloc());
     let mut asked = Asked {
         form: None,
-        at: None,
+        place: None,
         offset: None,
         year: None,
+        is_quiet: false,
         options: Vec::new(rt.alloc()),
     };
     let mut step = Step::Word;
     let mut lists = false;
-    for word in given.into_iter().skip(1) {
+    for word in cut_at_signs(rt, given)? {
         let before = step;
         step = step_after(before, word.as_bytes());
         match step {
-            Step::Form | Step::At | Step::Offset | Step::Year => asked.options.push(word)?,
+            Step::Form | Step::Place | Step::Offset | Step::Year => asked.options.push(word)?,
+            Step::Quiet => {
+                asked.is_quiet = true;
+                asked.options.push(word)?;
+            }
             Step::Value => {
                 asked.options.push(word.clone()?)?;
                 if !asked.keep(before, word) {
-                    return Ok(Sorted::Misuse(reading_line(twice_of(before))));
+                    return sort_as_misuse(rt, reading_line(twice_of(before)));
                 }
             }
             Step::List => lists = true,
             Step::Word | Step::File => words.push(word)?,
         }
     }
-    Ok(match step {
-        Step::Form => Sorted::Misuse("--form has no value: add a form, as rfc5424"),
-        Step::At => Sorted::Misuse(
-            "--at has no value: add front, field:N, after:TEXT or json:NAME",
-        ),
-        Step::Offset => Sorted::Misuse("--offset has no value: add one, as +05:30 or Z"),
-        Step::Year => Sorted::Misuse("--year has no value: add its four digits, as 2024"),
-        _ if lists && (!words.is_empty() || asked.is_any()) => {
-            Sorted::Misuse(misuse_line(Misuse::Extra))
+    match step {
+        Step::Form => sort_as_misuse(rt, "--form has no value: add a form, as rfc5424"),
+        Step::Place => {
+            sort_as_misuse(
+                rt,
+                "--place has no value: add front, field:N, after:TEXT or json:NAME",
+            )
         }
-        _ if lists => Sorted::Forms,
-        _ => Sorted::Words(words, asked),
-    })
+        Step::Offset => sort_as_misuse(rt, "--offset has no value: add one, as +05:30 or Z"),
+        Step::Year => sort_as_misuse(rt, "--year has no value: add its four digits, as 2024"),
+        _ if lists && (!words.is_empty() || asked.is_any()) => {
+            sort_as_misuse(rt, "--list-forms takes no other words: leave them out")
+        }
+        _ if lists => Ok(Sorted::Forms),
+        _ => {
+            let (words, files) = split(rt, words)?;
+            Ok(Sorted::Words(words, files, asked))
+        }
+    }
+}
+
+// A misuse of no word.
+fn sort_as_misuse(rt: &HostRuntime, text: &'static str) -> Result<Sorted, AllocError> {
+    Ok(Sorted::Misuse(text, String::new(rt.alloc())))
+}
+
+// The words without the name of the program. An option and its value, as `--form=git`, are two.
+fn cut_at_signs(rt: &HostRuntime, given: Vec<String>) -> Result<Vec<String>, AllocError> {
+    let mut words = Vec::new(rt.alloc());
+    let mut is_file = false;
+    for word in given.into_iter().skip(1) {
+        is_file |= is_dashes(word.as_bytes());
+        match word.as_str().split_once('=') {
+            Some((option, value)) if !is_file && is_valued(kind_of(option.as_bytes())) => {
+                words.push(option.to_string(rt.alloc())?)?;
+                words.push(value.to_string(rt.alloc())?)?;
+            }
+            _ if !is_file && is(word.as_bytes(), "-h") => {
+                words.push("--help".to_string(rt.alloc())?)?;
+            }
+            _ => words.push(word)?,
+        }
+    }
+    Ok(words)
+}
+
+// The words of the request, and the files. The options may stand behind files, but not behind `--`.
+fn split(rt: &HostRuntime, given: Vec<String>) -> Result<(Vec<String>, Vec<String>), AllocError> {
+    let front = front_length(bytes_of(rt, given.as_slice())?.as_slice());
+    let mut words = Vec::new(rt.alloc());
+    let mut files = Vec::new(rt.alloc());
+    let mut is_file = false;
+    for (k, word) in given.into_iter().enumerate() {
+        if !is_file && is(word.as_bytes(), "--all") && front <= words.len() {
+            words.insert(front, word)?;
+        } else if k < front || !is_file && is_option(word.as_bytes()) {
+            words.push(word)?;
+        } else if !is_file && is_dashes(word.as_bytes()) {
+            is_file = true;
+        } else {
+            files.push(word)?;
+        }
+    }
+    Ok((words, files))
 }
 
 // Prints each form with a sample, and returns the exit status.
@@ -157,19 +226,35 @@ fn list_forms(rt: &HostRuntime) -> u8 {
 fn reader_asked(asked: &Asked) -> Result<Reader, ReadingMisuse> {
     reader_of(
         bytes_if(&asked.form),
-        bytes_if(&asked.at),
+        bytes_if(&asked.place),
         bytes_if(&asked.offset),
         bytes_if(&asked.year),
     )
 }
 
+// The value of the option that a misuse is of.
+fn value_at_fault(asked: &Asked, misuse: ReadingMisuse) -> &str {
+    let value = match misuse {
+        ReadingMisuse::UnknownForm | ReadingMisuse::Description => &asked.form,
+        ReadingMisuse::Place => &asked.place,
+        ReadingMisuse::Offset(_) => &asked.offset,
+        _ => &asked.year,
+    };
+    match value {
+        Some(value) => value.as_str(),
+        None => "",
+    }
+}
+
 // How stamps are read, as far as words say it. The first lines of a log choose the form unless a
 // word gives a form or a place.
-fn choice_of(asked: &Asked) -> Given<'_> {
+fn choice_of<'a>(asked: &'a Asked, words: &'a [String]) -> Given<'a> {
     Given {
-        chooses: asked.form.is_none() && asked.at.is_none(),
+        chooses: asked.form.is_none() && asked.place.is_none(),
         offset: bytes_if(&asked.offset),
         year: bytes_if(&asked.year),
+        is_quiet: asked.is_quiet,
+        words,
         options: asked.options.as_slice(),
     }
 }
@@ -183,32 +268,40 @@ fn bytes_if(word: &Option<String>) -> Option<&[u8]> {
 }
 
 // Does what the words ask for, without those for how stamps are read.
-fn obey(rt: &HostRuntime, given: &[String], asked: &Asked) -> ExitCode {
+fn obey(rt: &HostRuntime, given: &[String], files: &[String], asked: &Asked) -> ExitCode {
     let Ok(words) = bytes_of(rt, given) else {
         say(rt, "", "no memory is left");
         return ExitCode::from(FAILED);
     };
-    let words = words.as_slice();
-    let files = files_of(words).len();
-    if words.len() != given.len() || files > words.len() {
-        return ExitCode::from(FAILED);
-    }
-    let count = words.len() - files;
-    match request_of(&words[..count]) {
+    match request_of(words.as_slice()) {
         Ok(Request::Help) => ExitCode::from(print_line(rt, USAGE)),
         Ok(Request::Version) => ExitCode::from(print_line(rt, VERSION_LINE)),
         Ok(request) => match reader_asked(asked) {
-            Ok(reader) => run(
-                rt,
-                job_of(request, reader),
-                choice_of(asked),
-                &given[..count],
-                &given[count..],
-            ),
-            Err(misuse) => report_misuse(rt, reading_line(misuse)),
+            Ok(reader) => run(rt, job_of(request, reader), choice_of(asked, given), files),
+            Err(misuse) => {
+                report_misuse(rt, reading_line(misuse), value_at_fault(asked, misuse))
+            }
         },
-        Err(misuse) => report_misuse(rt, misuse_line(misuse)),
+        Err(misuse) => {
+            report_misuse(
+                rt,
+                misuse_line(misuse),
+                word_at_fault(given, words.as_slice(), misuse),
+            )
+        }
     }
+}
+
+// The word at fault: the last of the shortest beginning of the words that is refused for this reason.
+fn word_at_fault<'a>(given: &'a [String], words: &[&[u8]], misuse: Misuse) -> &'a str {
+    for (count, word) in given.iter().enumerate() {
+        if count < words.len()
+            && matches!(request_of(&words[..=count]), Err(found) if found == misuse)
+        {
+            return word.as_str();
+        }
+    }
+    ""
 }
 
 // The words as bytes.
@@ -225,10 +318,12 @@ fn words_given(rt: &HostRuntime) -> io::Result<Vec<String>> {
     Ok(env::args(rt)?.collect(rt.alloc())?)
 }
 
-// Prints a misuse and the usage to standard error.
-fn report_misuse(rt: &HostRuntime, text: &str) -> ExitCode {
-    say(rt, "", text);
-    let _ = eprintln!(rt; "{USAGE}");
+// Prints a misuse to standard error. Where its text has two quotes, the word that is wrong is between them.
+fn report_misuse(rt: &HostRuntime, text: &str, word: &str) -> ExitCode {
+    let _ = match text.split_once("''") {
+        Some((front, rest)) => eprintln!(rt; "stamps: {front}'{word}'{rest}: see --help"),
+        None => eprintln!(rt; "stamps: {text}: see --help"),
+    };
     ExitCode::from(FAILED)
 }
 
@@ -246,30 +341,21 @@ fn job_of(request: Request, reader: Reader) -> Job {
     match request {
         Request::Help | Request::Version => Job::Nothing,
         Request::Work(action) => Job::Work(Task { action, reader }),
-        Request::Count(clock, is_strict) => Job::Count(ClockBuckets { clock, reader }, is_strict),
+        Request::Count(clock, shows_all, is_strict) => Job::Count(
+            ClockBuckets {
+                clock,
+                shows_all,
+                reader,
+            },
+            is_strict,
+        ),
         Request::Merge(is_strict) => Job::Merge(reader, is_strict),
     }
 }
 
-// Does the job on the files. The words are those before them.
-fn run(
-    rt: &HostRuntime,
-    job: Job,
-    given: Given<'_>,
-    words: &[String],
-    files: &[String],
-) -> ExitCode {
-    for file in files {
-        if is_dashes(file.as_bytes()) {
-            break;
-        }
-        if is_option(file.as_bytes()) {
-            return report_misuse(
-                rt,
-                "an option follows a file: put options before the files, or -- before a file of that name",
-            );
-        }
-    }
+// Does the job on the files.
+fn run(rt: &HostRuntime, job: Job, given: Given<'_>, files: &[String]) -> ExitCode {
+    let words = given.words;
     ExitCode::from(match job {
         Job::Nothing => 0,
         Job::Work(task) => inputs::run(rt, &task, given, words, files),

@@ -4,7 +4,7 @@ ghost use Rattle.line_merges.specs.Logs.{new_log};
 ghost use Rattle.line_merges.specs.Runs.{AreNew};
 ghost use Rattle.stamps.specs.MergeFaults.{merge_status};
 
-use crate::files::{is_compressed, is_dashes};
+use crate::files::is_compressed;
 use crate::finding::{Cause, Finding};
 use crate::first_lines::{Given, reader_chosen};
 use crate::instants::StampInstants;
@@ -25,10 +25,7 @@ pub fn run(
     words: &[String],
     files: &[String],
 ) -> u8 {
-    let names = match files.split_first() {
-        Some((dashes, rest)) if is_dashes(dashes.as_bytes()) => rest,
-        _ => files,
-    };
+    let names = files;
     for name in names {
         if is_compressed(name.as_bytes()) {
             say_compressed(rt, words, given.options, name);
@@ -59,7 +56,7 @@ pub fn run(
             Ok(own) => own,
             Err(status) => return status,
         };
-        shows_progress |= input.shows_progress();
+        shows_progress |= input.inner().shows_progress();
         if add_log(&mut instants, &mut logs, own, Device::new(input)).is_err() {
             say(rt, "", "no memory is left");
             return FAILED;

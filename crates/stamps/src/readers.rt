@@ -1,12 +1,12 @@
 //! Readers of the stamps of lines.
-ghost use Rattle.std.specs.Prelude.{◌≡◌, ◌≤◌, ◌+◌, IfOk, drop, length};
+ghost use Rattle.std.specs.Prelude.{◌≡◌, ◌≤◌, ◌<◌, ◌+◌, ◌^◌, drop, length};
 ghost use Rattle.stamps.specs.LineStamps.{has_mark, mark_length};
-ghost use Rattle.stamps.specs.Readers.{form_stamp, formed_at, line_stamp, plain_at};
+ghost use Rattle.stamps.specs.Readers.{form_stamp, formed_at, in_line, is_json, is_quote, json_kind, line_stamp, plain_at, value_kind};
 
-use crate::decide::{Stamp, has_mark, stamp_of};
+use crate::decide::{Stamp, byte_at, front_of, has_mark, stamp_of};
 use format_descriptions::ValueRefusal;
 use line_devices::table::Table;
-use log_forms::{Assumed, Form, Place, StampRefusal, assumed_after, stamp_at};
+use log_forms::{Assumed, Form, Place, Stamp as FormStamp, StampRefusal, assumed_after, stamp_at};
 use rfc3339::{Component, TextRefusal};
 use utc_times::UtcDateTime;
 
@@ -49,6 +49,19 @@ pub struct LineStamp {
     pub length: usize,
     /// Whether a bracket follows it.
     pub is_zoned: bool,
+    /// Whether these bytes are a whole value of JSON: a number, or a text with its quotes.
+    pub is_value: bool,
+}
+
+/// How a stamp is a value of JSON.
+#[derive(Clone, Copy, Debug, PartialEq, Eq)]
+pub enum ValueKind {
+    /// The bytes of a stamp: it is a number.
+    Number,
+    /// They and a quote on each side: it is a text.
+    Quoted,
+    /// None, or more than that.
+    Other,
 }
 
 /// Why a line has no stamp.
@@ -99,6 +112,7 @@ fn plain_at(before: usize, stamp: Result<Stamp, TextRefusal>) -> Result<LineStam
             start: before,
             length: stamp.length,
             is_zoned: stamp.is_zoned,
+            is_value: false,
         }),
         Err(TextRefusal::Syntax) => Err(LineRefusal::Absent),
         Err(TextRefusal::OutOfRange(component)) => Err(LineRefusal::OutOfRange(component)),
@@ -114,18 +128,88 @@ fn form_stamp(
     line: &[u8],
 ) -> Result<LineStamp, LineRefusal>
     requires { before ≤ length line.now }
-    ensures { result ≡ formed_at before (form_stamp reader.now last (drop before line.now)) }
+    ensures { result ≡ formed_at before reader.now.place (drop before line.now)
+        (form_stamp reader.now last (drop before line.now)) }
 {
     let assumed = assumed_after(&reader.assumed, last);
     let text = reader.text.items();
-    match stamp_at(&reader.form, reader.place, text, &assumed, &line[before..]) {
-        Ok(stamp) => Ok(LineStamp {
+    let line = &line[before..];
+    match stamp_at(&reader.form, reader.place, text, &assumed, line) {
+        Ok(stamp) => Ok(in_line(before, value_kind(reader.place, line, &stamp), &stamp)),
+        Err(StampRefusal::Absent) => Err(LineRefusal::Absent),
+        Err(StampRefusal::Part(refusal)) => Err(LineRefusal::Part(refusal)),
+    }
+}
+
+// The value of JSON that the stamp of a line is: a number unless a quote is before it, and a text if one follows it too.
+fn value_kind(place: Place, line: &[u8], stamp: &FormStamp) -> ValueKind
+    requires { stamp.now.start + stamp.now.length ≤ length line.now }
+    ensures { result ≡ value_kind place line.now stamp.now }
+{
+    if is_json(place) {
+        json_kind(front_of(line), stamp)
+    } else {
+        ValueKind::Other
+    }
+}
+
+// Whether a place is a member of JSON.
+fn is_json(place: Place) -> bool
+    ensures { result ≡ is_json place }
+{
+    match place {
+        Place::Json => true,
+        Place::Front | Place::Field(_) | Place::After | Place::Access | Place::Coloured => false,
+    }
+}
+
+// The value of JSON that a stamp in a text is.
+fn json_kind(front: &[u8], stamp: &FormStamp) -> ValueKind
+    requires { stamp.now.start + stamp.now.length < 2 ^ 63 }
+    ensures { result ≡ json_kind front.now stamp.now }
+{
+    if stamp.start == 0 {
+        return ValueKind::Other;
+    }
+    if !is_quote(byte_at(front, stamp.start - 1)) {
+        return ValueKind::Number;
+    }
+    if is_quote(byte_at(front, stamp.start + stamp.length)) {
+        ValueKind::Quoted
+    } else {
+        ValueKind::Other
+    }
+}
+
+// Whether there is a byte, and it is a quote.
+fn is_quote(byte: Option<u8>) -> bool
+    ensures { result ≡ is_quote byte }
+{
+    match byte {
+        Some(byte) => byte == b'"',
+        None => false,
+    }
+}
+
+// The stamp of a line with this many bytes before the text that has it: the bytes of the value that it is.
+fn in_line(before: usize, kind: ValueKind, stamp: &FormStamp) -> LineStamp
+    requires { before + (stamp.now.start + stamp.now.length) < 2 ^ 63 }
+    ensures { result ≡ in_line before kind stamp.now }
+{
+    match kind {
+        ValueKind::Quoted => LineStamp {
+            instant: stamp.instant,
+            start: before + stamp.start.saturating_sub(1),
+            length: stamp.length + 2,
+            is_zoned: stamp.is_zoned,
+            is_value: true,
+        },
+        ValueKind::Number | ValueKind::Other => LineStamp {
             instant: stamp.instant,
             start: before + stamp.start,
             length: stamp.length,
             is_zoned: stamp.is_zoned,
-        }),
-        Err(StampRefusal::Absent) => Err(LineRefusal::Absent),
-        Err(StampRefusal::Part(refusal)) => Err(LineRefusal::Part(refusal)),
+            is_value: matches!(kind, ValueKind::Number),
+        },
     }
 }

@@ -1,6 +1,6 @@
 //! The reader that the words of the command line ask for.
 ghost use Rattle.std.specs.Prelude.{◌≡◌, ◌≤◌, drop, length, option_map};
-ghost use Rattle.stamps.specs.Reading.{needs_lines_before};
+ghost use Rattle.stamps.specs.Reading.{is_valued, needs_lines_before};
 ghost use Rattle.stamps.specs.Reading.{form_asked, is_front, kind_of, offset_asked, place_asked, place_text, plain_reader};
 ghost use Rattle.stamps.specs.Reading.{reader_of, reader_with, reading_text};
 ghost use Rattle.stamps.specs.Reading.{step_after, twice_of, whole_reader, year_asked, year_of};
@@ -22,12 +22,14 @@ pub enum Step {
     Word,
     /// `--form`.
     Form,
-    /// `--at`.
-    At,
+    /// `--place`, or `--at`.
+    Place,
     /// `--offset`.
     Offset,
     /// `--year`.
     Year,
+    /// `--quiet`.
+    Quiet,
     /// `--list-forms`.
     List,
     /// The value of the option before it.
@@ -41,26 +43,38 @@ pub fn step_after(before: Step, word: &[u8]) -> Step
     ensures { result ≡ step_after before word.now }
 {
     match before {
-        Step::Form | Step::At | Step::Offset | Step::Year => Step::Value,
         Step::File => Step::File,
-        Step::Word | Step::List | Step::Value => kind_of(word),
+        _ if is_valued(before) => Step::Value,
+        _ => kind_of(word),
     }
 }
 
-// The kind of a word that is no value.
-fn kind_of(word: &[u8]) -> Step
+/// Whether the next word is the value of a word of this kind.
+pub fn is_valued(step: Step) -> bool
+    ensures { result ≡ is_valued step }
+{
+    match step {
+        Step::Form | Step::Place | Step::Offset | Step::Year => true,
+        Step::Word | Step::Quiet | Step::List | Step::Value | Step::File => false,
+    }
+}
+
+/// The kind of a word that is no value.
+pub fn kind_of(word: &[u8]) -> Step
     ensures { result ≡ kind_of word.now }
 {
     if is_dashes(word) {
         Step::File
     } else if is(word, "--form") {
         Step::Form
-    } else if is(word, "--at") {
-        Step::At
+    } else if is(word, "--place") || is(word, "--at") {
+        Step::Place
     } else if is(word, "--offset") {
         Step::Offset
     } else if is(word, "--year") {
         Step::Year
+    } else if is(word, "--quiet") {
+        Step::Quiet
     } else if is(word, "--list-forms") {
         Step::List
     } else {
@@ -91,8 +105,8 @@ pub enum ReadingMisuse {
     LacksBoth,
     /// `--form` is given twice.
     FormTwice,
-    /// `--at` is given twice.
-    AtTwice,
+    /// `--place` is given twice.
+    PlaceTwice,
     /// `--offset` is given twice.
     OffsetTwice,
     /// `--year` is given twice.
@@ -105,13 +119,14 @@ pub fn twice_of(option: Step) -> ReadingMisuse
 {
     match option {
         Step::Form => ReadingMisuse::FormTwice,
-        Step::At => ReadingMisuse::AtTwice,
+        Step::Place => ReadingMisuse::PlaceTwice,
         Step::Offset => ReadingMisuse::OffsetTwice,
-        Step::Year | Step::Word | Step::List | Step::Value | Step::File => ReadingMisuse::YearTwice,
+        _ => ReadingMisuse::YearTwice,
     }
 }
 
-/// The reader of the values of `--form`, `--at`, `--offset` and `--year`, as far as they are given.
+/// The reader of the values of `--form`, `--place`, `--offset` and `--year`, as far as they are
+/// given.
 #[tactic(auto, unfolding(crate::specs::Reading::reader_of))]
 pub fn reader_of(
     form: Option<&[u8]>,
@@ -236,7 +251,7 @@ fn reader_with(
 }
 
 // The reader of RFC 3339 at a place.
-fn plain_reader(
+pub(crate) fn plain_reader(
     place: Place,
     text: PlaceText,
     offset: Option<UtcOffset>,
@@ -256,7 +271,7 @@ fn is_front(place: Place) -> bool
 {
     match place {
         Place::Front => true,
-        Place::Field(_) | Place::After | Place::Json => false,
+        Place::Field(_) | Place::After | Place::Json | Place::Access | Place::Coloured => false,
     }
 }
 
@@ -326,24 +341,24 @@ pub fn reading_line(misuse: ReadingMisuse) -> &'static str
 {
     match misuse {
         ReadingMisuse::UnknownForm =>
-            "the form is unknown: write a name of --list-forms, or a description, as [day]/[month]/[year]",
+            "the form '' is unknown: write a name of --list-forms, or a description, as [day]/[month]/[year]",
         ReadingMisuse::Description =>
-            "the description of the form is at fault: write it as [day]/[month repr:short]/[year]",
+            "the description '' is at fault: write it as [day]/[month repr:short]/[year]",
         ReadingMisuse::Place =>
-            "the place is unknown: write front, field:N, after:TEXT or json:NAME",
+            "the place '' is unknown: write front, field:N, after:TEXT or json:NAME",
         ReadingMisuse::LongPlace =>
             "the text of the place has more than 255 bytes: write a shorter one",
         ReadingMisuse::Offset(TextRefusal::Syntax) =>
-            "the offset has another form: write it as +05:30 or Z",
+            "the offset '' has another form: write it as +05:30 or Z",
         ReadingMisuse::Offset(TextRefusal::OutOfRange(_)) =>
-            "the offset is out of range: write one from -23:59 to +23:59",
-        ReadingMisuse::Year => "the year has another form: write its four digits, as 2024",
+            "the offset '' is out of range: write one from -23:59 to +23:59",
+        ReadingMisuse::Year => "the year '' has another form: write its four digits, as 2024",
         ReadingMisuse::LacksOffset => "the form has no offset: add one, as --offset +05:30",
         ReadingMisuse::LacksYear => "the form has no year: add the first one, as --year 2024",
         ReadingMisuse::LacksBoth =>
             "the form has no offset and no year: add them, as --offset +05:30 --year 2024",
         ReadingMisuse::FormTwice => "--form is given twice: leave one out",
-        ReadingMisuse::AtTwice => "--at is given twice: leave one out",
+        ReadingMisuse::PlaceTwice => "--place is given twice: leave one out",
         ReadingMisuse::OffsetTwice => "--offset is given twice: leave one out",
         ReadingMisuse::YearTwice => "--year is given twice: leave one out",
     }

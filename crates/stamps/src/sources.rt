@@ -1,11 +1,11 @@
 //! Where lines come from: standard input or files. A large file shows its progress.
 ghost use Rattle.std.specs.Prelude.{◌≡◌};
-ghost use Rattle.std.specs.Io.{ReadsAtMost};
 ghost use Rattle.line_devices.specs.Device.{is_pipe_closed};
 ghost use Rattle.stamps.specs.Faults.{unwritten_status};
 
+use crate::ahead::Ahead;
+use crate::files::Packing;
 use line_devices::devices::Device;
-use std::alloc::AllocError;
 use std::fs::{File, metadata};
 use std::io;
 use std::io::{ErrorKind, IsTerminal, Read, Stdin};
@@ -20,11 +20,6 @@ pub const PIPE_CLOSED: u8 = 141;
 
 // A file with more bytes than these shows its progress.
 const LARGE: u64 = 100_000_000;
-
-// The most bytes of a read of the first bytes, with which they are enough, and the most such reads.
-const BLOCK: usize = 65_536;
-
-const MOST_READS: usize = 16;
 
 // Where bytes come from.
 #[derive(Drop)]
@@ -48,38 +43,25 @@ pub struct Input<'a> {
     rt: &'a HostRuntime,
     origin: Origin,
     progress: Option<Progress>,
-    head: Vec<u8>,
-    served: usize,
-    fault: Option<io::Error>,
 }
 
 impl<'a> Input<'a> {
     /// Opens a file, or standard input if its name is `-`. Says why where it cannot. If the input
     /// is large and standard error is a terminal, it shows its progress there, unless it may not.
-    pub fn open(rt: &'a HostRuntime, name: &str, may_show: bool) -> Option<Input<'a>> {
+    pub fn open(rt: &'a HostRuntime, name: &str, may_show: bool) -> Option<Ahead<Input<'a>>> {
         if name == "-" {
-            return Some(Input {
-                rt,
-                origin: Origin::Standard(rt.stdin()),
-                progress: progress_of(rt, "/dev/stdin", may_show),
-                head: Vec::new(rt.alloc()),
-                served: 0,
-                fault: None,
-            });
+            let progress = progress_of(rt, "/dev/stdin", may_show);
+            return Some(Input::from(rt, Origin::Standard(rt.stdin()), progress));
         }
         if matches!(metadata(rt, name), Ok(found) if found.is_dir()) {
             say(rt, name, "a folder has no lines: name its files");
             return None;
         }
         match File::open(rt, name) {
-            Ok(file) => Some(Input {
-                rt,
-                origin: Origin::Regular(file),
-                progress: progress_of(rt, name, may_show),
-                head: Vec::new(rt.alloc()),
-                served: 0,
-                fault: None,
-            }),
+            Ok(file) => {
+                let progress = progress_of(rt, name, may_show);
+                Some(Input::from(rt, Origin::Regular(file), progress))
+            }
             Err(error) => {
                 let _ = eprintln!(rt; "stamps: {name}: {error}");
                 None
@@ -87,43 +69,16 @@ impl<'a> Input<'a> {
         }
     }
 
-    /// Reads on until a line ends, or a block is full, and returns the bytes that were read. Later
-    /// reads return them once more, and then the fault of a read that failed. Fails if no memory is
-    /// left.
-    pub fn first_bytes(&mut self) -> Result<&[u8], AllocError> {
-        for _ in 0..MOST_READS {
-            let mut block = [0u8; BLOCK];
-            let count = match self.fetch(&mut block) {
-                Ok(count) => count,
-                Err(error) => {
-                    self.fault = Some(error);
-                    break;
-                }
-            };
-            if count == 0 || count > block.len() {
-                break;
-            }
-            let bytes = &block[..count];
-            self.head.extend_from_slice(bytes)?;
-            if bytes.contains(&b'\n') || self.head.len() >= BLOCK {
-                break;
-            }
-        }
-        Ok(self.head.as_slice())
-    }
-
-    // Reads from where the bytes come from.
-    fn fetch(&mut self, buffer: &mut [u8]) -> io::Result<usize>
-        ensures { ReadsAtMost result buffer.new }
-    {
-        let count = match &mut self.origin {
-            Origin::Standard(input) => input.read(buffer)?,
-            Origin::Regular(file) => file.read(buffer)?,
-        };
-        if let Some(progress) = &mut self.progress {
-            show(self.rt, progress, count);
-        }
-        Ok(count)
+    // The input from where the bytes come from, of which nothing is read.
+    fn from(rt: &'a HostRuntime, origin: Origin, progress: Option<Progress>) -> Ahead<Input<'a>> {
+        Ahead::new(
+            Input {
+                rt,
+                origin,
+                progress,
+            },
+            rt.alloc(),
+        )
     }
 
     /// Whether it shows its progress.
@@ -138,23 +93,12 @@ impl Read for Input<'_> {
     ghost remaining = { λ _. None };
 
     fn read(&mut self, buffer: &mut [u8]) -> io::Result<usize> {
-        if self.served >= self.head.len() {
-            if let Some(error) = self.fault.take() {
-                return Err(error);
-            }
-            return self.fetch(buffer);
-        }
-        let rest = &self.head[self.served..];
-        let count = if rest.len() < buffer.len() {
-            rest.len()
-        } else {
-            buffer.len()
+        let count = match &mut self.origin {
+            Origin::Standard(input) => input.read(buffer)?,
+            Origin::Regular(file) => file.read(buffer)?,
         };
-        buffer[..count].copy_from_slice(&rest[..count]);
-        self.served += count;
-        if self.served >= self.head.len() {
-            self.head = Vec::new(self.rt.alloc());
-            self.served = 0;
+        if let Some(progress) = &mut self.progress {
+            show(self.rt, progress, count);
         }
         Ok(count)
     }
@@ -221,11 +165,39 @@ pub fn say(rt: &HostRuntime, name: &str, text: &str) {
     }
 }
 
-/// Says what reads a file that is compressed. The words and the options are those before the files.
+/// Says what reads a file that is compressed by its name. The words and the options are those
+/// before the files.
 pub fn say_compressed(rt: &HostRuntime, words: &[String], options: &[String], name: &str) {
-    let _ = eprint!(rt; "stamps: {name}: the file is compressed: use zcat");
-    say_word(rt, name);
-    let _ = eprint!(rt; " | stamps");
+    say_packed(rt, words, options, name, Packing::Gzip);
+}
+
+/// Says what reads an input that is packed. The words and the options are those before the files.
+pub fn say_packed(
+    rt: &HostRuntime,
+    words: &[String],
+    options: &[String],
+    said: &str,
+    packing: Packing,
+) {
+    let (kind, unpack) = match packing {
+        Packing::Gzip => ("compressed", "zcat"),
+        Packing::Zstd => ("compressed", "zstdcat"),
+        Packing::Xz => ("compressed", "xzcat"),
+        Packing::Bzip2 => ("compressed", "bzcat"),
+        Packing::Utf16 => ("text of UTF-16", "iconv -f UTF-16 -t UTF-8"),
+    };
+    if said.is_empty() || said == "-" {
+        let _ = eprint!(rt; "stamps: the input is {kind}: use {unpack} | stamps");
+    } else {
+        let _ = eprint!(rt; "stamps: {said}: the file is {kind}: use {unpack}");
+        say_word(rt, said);
+        let _ = eprint!(rt; " | stamps");
+    }
+    say_call(rt, words, options);
+}
+
+// Prints the words and the options of a call that reads standard input.
+fn say_call(rt: &HostRuntime, words: &[String], options: &[String]) {
     for word in words {
         say_word(rt, word);
     }

@@ -1,10 +1,11 @@
 //! The work of the program: lines in, lines out.
-ghost use Rattle.std.specs.Prelude.{◌≡◌, ℕ, ◌-◌, ◌^◌, ◌<◌, ◌≤◌, ◌⊎◌, true, false, List, [], length, Some, Err, OnOk, IsOk, IfSome, IfErr, IsErrOf};
+ghost use Rattle.std.specs.Prelude.{◌≡◌, ℕ, ◌-◌, ◌^◌, ◌<◌, ◌≤◌, ◌⊎◌, true, false, List, [], length, Some, Err, OnOk, IsOk, IfOk, IfSome, IfErr, IsErrOf};
 ghost use Rattle.std.specs.Io.KnownBytes.{Appends, Consumes};
 ghost use Rattle.line_devices.specs.Device.{Devices, devices};
 ghost use Rattle.line_devices.specs.Writing.{AppendsBeginning};
 ghost use Rattle.stamps.specs.Faults.{stamp_fault, status_of, FoundIn};
 ghost use Rattle.stamps.specs.Runs.{input_run, open_run};
+ghost use Rattle.stamps.specs.Tallies.{tally_of};
 ghost use Rattle.stamps.specs.Turns.{GoesOn, Turns};
 
 use crate::finding::Finding;
@@ -12,6 +13,7 @@ use crate::lines::{LineFault, Work, feed, finish};
 use crate::task::Task;
 use line_devices::devices::{Sink, Source};
 use line_devices::sending::Pending;
+use line_devices::stamp_tallies::StampTally;
 
 /// The reason why the work ended before the end of the input.
 #[derive(Clone, Copy, Debug, PartialEq, Eq)]
@@ -37,12 +39,12 @@ impl From<LineFault> for StampFault {
 
 /// The exit status of the program: 0 at the end of the input, 1 for a finding or a note, and 2
 /// after a failed read or write.
-pub fn status_of(ended: &Result<(), StampFault>, has_told: bool) -> u8
+pub fn status_of(ended: &Result<StampTally, StampFault>, has_told: bool) -> u8
     ensures { result ≡ status_of ended.now has_told }
 {
     match ended {
-        Ok(()) if has_told => 1,
-        Ok(()) => 0,
+        Ok(_) if has_told => 1,
+        Ok(_) => 0,
         Err(StampFault::Found(_)) => 1,
         Err(StampFault::Read | StampFault::Write) => 2,
     }
@@ -51,7 +53,8 @@ pub fn status_of(ended: &Result<(), StampFault>, has_told: bool) -> u8
 // The most bytes of a read.
 const BLOCK: usize = 65_536;
 
-/// Reads lines to the end of the input, and writes of each what the task says.
+/// Reads lines to the end of the input, and writes of each what the task says. Returns how many of
+/// them have no stamp.
 ///
 /// A line ends before a line feed, or with the input. A fault ends the work: `Read` and `Write`
 /// after a failed call of the reader or the writer, and `Found` at the first line that the task
@@ -61,16 +64,19 @@ pub fn stamps<R: Source, W: Sink>(
     task: &Task,
     reader: &mut R,
     writer: &mut W,
-) -> Result<(), StampFault>
+) -> Result<StampTally, StampFault>
     requires reader { R.is_marked reader.old ≡ false }
     requires writer { W.is_marked writer.old ≡ false }
 
-    // At the end of the input: all of it was read, exactly its output was written, and it has no finding.
+    // At the end of the input: all of it was read, exactly its output was written, it has no finding, and
+    // the tally is that of its lines.
     ensures end { OnOk result (IfSome (R.left reader.old) (λ _. R.left reader.new ≡ Some [])) }
     ensures written { OnOk result (IfSome (R.left reader.old) (λ input.
         Appends (W.written writer.old) (W.written writer.new) (input_run task.now input).text)) }
     ensures well { OnOk result (IfSome (R.left reader.old) (λ input.
         IsOk (input_run task.now input).end)) }
+    ensures tally { IfOk result (λ tally. IfSome (R.left reader.old) (λ input.
+        tally ≡ tally_of task.now.reader input)) }
     ensures no_read_failed { OnOk result (R.is_marked reader.new ≡ false) }
     ensures no_write_failed { OnOk result (W.is_marked writer.new ≡ false) }
 
@@ -103,7 +109,7 @@ pub fn stamps<R: Source, W: Sink>(
     'reads: for _turn in 0..u64::MAX {
         let count = take_block(task, reader, writer, &mut pending, &mut work, &mut block)?;
         if count == 0 {
-            return Ok(());
+            return Ok(work.state.tally);
         }
     }
     Err(StampFault::Read)

@@ -1,8 +1,10 @@
 //! Instants written.
 ghost use Rattle.std.specs.Prelude.{◌≡◌, ◌≤◌, length, IfSome};
+ghost use Rattle.stamps.specs.StampTexts.{in_quotes, is_date, stamp_text, value_text};
 ghost use Rattle.stamps.specs.Styles.{text_in};
 ghost use Rattle.stamps.specs.declared.task.Style.TheVariants.{Utc, At};
 
+use crate::readers::LineStamp;
 use crate::task::Style;
 use calendar_values::{Text, UtcOffset};
 use offset_times::ToOffset;
@@ -22,6 +24,50 @@ pub fn text_in(style: &Style, at: UtcDateTime) -> Option<Text>
         Style::At(offset) => text_at(at, offset),
         Style::Unix => Some(to_unix_nanos(at)),
     }
+}
+
+/// The text of a stamp in a style. A date in place of a value of JSON is in quotes.
+pub fn stamp_text(style: &Style, stamp: &LineStamp) -> Option<Text>
+    ensures { result ≡ stamp_text style.now stamp.now }
+{
+    value_text(
+        stamp.is_value && is_date(style),
+        text_in(style, stamp.instant),
+    )
+}
+
+// A text, if there is one, in quotes or as it is.
+fn value_text(is_quoted: bool, text: Option<Text>) -> Option<Text>
+    requires { IfSome text (λ text. length text ≤ 35) }
+    ensures { result ≡ value_text is_quoted text }
+{
+    match (is_quoted, text) {
+        (true, Some(text)) => Some(in_quotes(&text)),
+        (_, text) => text,
+    }
+}
+
+// Whether a style is one of dates.
+fn is_date(style: &Style) -> bool
+    ensures { result ≡ is_date style.now }
+{
+    match style {
+        Style::Utc => true,
+        Style::At(_) => true,
+        Style::Unix => false,
+    }
+}
+
+// A text in quotes.
+fn in_quotes(text: &Text) -> Text
+    requires { length text.now ≤ 35 }
+    ensures { result ≡ in_quotes text.now }
+{
+    let mut quoted = Text::new();
+    quoted.push(b'"');
+    quoted.push_bytes(text.as_bytes());
+    quoted.push(b'"');
+    quoted
 }
 
 // In UTC.

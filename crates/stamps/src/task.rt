@@ -27,9 +27,9 @@ pub enum Action {
     Check(bool),
     /// Write its fault in place of each line that would end `Check`, and read to the end.
     CheckAll(bool),
-    /// Write, in place of each line whose instant is later than the last one by more than this
-    /// duration, how much later it is. Where the task is strict, the first line without a stamp or
-    /// with an earlier one ends the run.
+    /// Write, in place of each line whose instant is later than all before it by more than this
+    /// duration, how much later it is than the latest of them. Where the task is strict, the first
+    /// line without a stamp or with an earlier one ends the run.
     Gaps(SignedDuration, bool),
     /// Write those whose instant is not before this one.
     Since(UtcDateTime),

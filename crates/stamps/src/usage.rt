@@ -1,27 +1,28 @@
 //! The usage. Made by make/stamps_words.
 
-/// The text that `--help` prints, as does each misuse.
+/// The text that `--help` prints.
 pub const USAGE: &str = "usage: stamps WORD [FILE..]
-  utc [--strict]                     write each stamp in UTC
-  at OFFSET [--strict]               write each stamp at an offset, as +05:30 or Z
-  unix [--strict]                    write each stamp as Unix seconds
-  check [--all] [--strict]           write nothing, and fail where the instants decrease
-  gaps DURATION [--strict]           write each gap that is longer, as 90s, 5m or 1h30m
-  count UNIT [at OFFSET] [--strict]  write the number of lines in each minute, hour or day
-  since DATE-TIME                    write the lines from this instant on
-  until DATE-TIME                    write the lines before this instant
-  merge [--strict]                   write the lines of all files in the order of their instants
-  --list-forms                       print each form and a sample of it
-  --help                             print this usage
-  --version                          print the version
+  utc [--strict]                             write each stamp in UTC
+  at OFFSET [--strict]                       write each stamp at an offset, as +05:30 or Z
+  unix [--strict]                            write each stamp as Unix seconds
+  check [--all] [--strict]                   write nothing, and fail where the instants decrease
+  gaps DURATION [--strict]                   write each gap that is longer, as 90s, 5m or 1h30m
+  count UNIT [at OFFSET] [--all] [--strict]  write the number of lines in each minute, hour or day
+  since DATE-TIME                            write the lines from this instant on
+  until DATE-TIME                            write the lines before this instant
+  merge [--strict]                           write the lines of all files in the order of their instants
+  --list-forms                               print each form and a sample of it
+  --help                                     print this usage
+  --version                                  print the version
 With --strict the first line without a stamp ends the run, but not that of merge.
 With --strict the first line that goes back ends gaps, count and merge.
-With --all check prints every line at fault.
+With --all check prints every line at fault, and count each row of 0.
 With --form FORM stamps have a form by its name, or by a description, as [day]/[month]/[year].
-With --at PLACE they are at front, field:N, after:TEXT or json:NAME.
+With --place PLACE they are at front, field:N, after:TEXT or json:NAME.
 With --offset OFFSET those without an offset have this one, as +05:30 or Z.
 With --year YEAR the first of those without a year has this one.
-Without --form and --at the first lines of each FILE choose both.
-With --form alone the place is front. With --at alone the form is rfc3339.
+With --quiet stamps leaves out its notes, but no error.
+Without --form and --place the first lines of each FILE choose both.
+With --form alone the place is front. With --place alone the form is rfc3339.
 Without a FILE, or for the FILE -, stamps reads standard input.
 The status is 0, or 1 for a gap or a line at fault, or 2 for an error.";

@@ -283,6 +283,23 @@ test("what names no part is no duration, and no part of a date-time", () => {
     assert.equal(Duration.of({ hours: -0 }).nanoseconds, 0n);
 });
 
+test("a name that each object has names no part", () => {
+    const at = new Timestamp(0), shown = at.toOffset(0), day = { year: 1970, month: 1, day: 1 };
+    for (const name of Object.getOwnPropertyNames(Object.prototype)) {
+        const parts = Object.fromEntries([[name, 5]]), message = new RegExp(`^(?:the date-time|the duration|a duration) has no part ${name}: name `);
+        for (const call of [
+            () => OffsetDateTime.of({ ...day, ...parts }),
+            () => shown.with(parts),
+            () => shown.add(parts),
+            () => at.subtract(parts),
+            () => Duration.of({ hours: 1, ...parts }),
+            () => new Duration(5).whole(name),
+        ]) {
+            assert.throws(call, { name: "TypeError", message }, `${name}: ${call}`);
+        }
+    }
+});
+
 test("a stack that overflows within a call leaves the calls as they were", () => {
     const text = "2024-02-28T23:30:00.123-01:00", at = Timestamp.parse(text), shown = OffsetDateTime.parse(text);
     const moved = () => at.toOffset(60).add({ hours: 1 }).truncate("minute").toRfc3339();

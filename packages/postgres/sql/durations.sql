@@ -11,6 +11,15 @@ SELECT '1 day 2 weeks'::exact_duration;
 SELECT '0.5 nanoseconds'::exact_duration;
 SELECT '1.'::exact_duration;
 SELECT '1 - 2'::exact_duration;
+-- a term without a unit stands alone: a date, or a number in groups, is no sum of seconds
+SELECT '2024-02-29'::exact_duration;
+SELECT '1 000'::exact_duration;
+SELECT '1-2'::exact_duration;
+SELECT '1 2'::exact_duration;
+SELECT '1 day 2'::exact_duration;
+SELECT '2 1 day'::exact_duration;
+SELECT '2024-02-29T00:00:00Z'::offset_timestamp + '2024-03-01';
+SELECT d::exact_duration FROM (VALUES (' -1 '), ('1 day -0.5 seconds'), ('1day2hours')) v (d);
 SELECT exact_duration_send('-0.5'), exact_duration_send('1 day');
 SELECT a, b, a = b AS eq, a < b AS lt, a <= b AS le, a > b AS gt, a >= b AS ge, a <> b AS ne
 FROM (VALUES ('1 day'::exact_duration, '86400'::exact_duration), ('-0.000000001', '0')) v (a, b);

@@ -15,10 +15,20 @@ EXPLAIN (COSTS OFF) SELECT count(*) FROM events a JOIN events b USING (at);
 SELECT count(*) FROM events a JOIN events b USING (at);
 RESET enable_mergejoin; RESET enable_nestloop;
 SET enable_hashjoin = off; SET enable_nestloop = off;
-EXPLAIN (COSTS OFF) SELECT count(*) FROM events a JOIN events b ON a.at = b.tz;
-SELECT count(*) FROM events a JOIN events b ON a.at = b.tz;
+EXPLAIN (COSTS OFF) SELECT count(*) FROM events a JOIN events b USING (at);
 SELECT count(*) FROM events a JOIN events b USING (at);
 RESET enable_hashjoin; RESET enable_nestloop;
+-- with a timestamptz joins go by hash, and infinities are there
+INSERT INTO events VALUES (0, '9999-12-31T23:59:59Z', 'infinity'), (-1, '0000-01-01T00:00:00Z', '-infinity');
+EXPLAIN (COSTS OFF) SELECT count(*) FROM events a JOIN events b ON a.at = b.tz;
+SELECT count(*), bool_and(a.id = b.id) FROM events a JOIN events b ON a.at = b.tz;
+EXPLAIN (COSTS OFF) SELECT count(*) FROM events a JOIN events b ON a.tz = b.at;
+SELECT count(*), bool_and(a.id = b.id) FROM events a JOIN events b ON a.tz = b.at;
+EXPLAIN (COSTS OFF) SELECT count(*) FROM events a FULL JOIN events b ON a.at = b.tz;
+SELECT count(*) FROM events a FULL JOIN events b ON a.at = b.tz;
+EXPLAIN (COSTS OFF) SELECT id FROM events WHERE at NOT IN (SELECT tz FROM events) ORDER BY id;
+SELECT id FROM events WHERE at NOT IN (SELECT tz FROM events) ORDER BY id;
+DELETE FROM events WHERE id < 1;
 -- statistics go by the instant
 SELECT most_common_vals IS NULL AS no_common, array_length(histogram_bounds::text::text[], 1) AS bounds, n_distinct FROM pg_stats WHERE tablename = 'events' AND attname = 'at';
 -- BRIN
@@ -27,6 +37,11 @@ DROP INDEX events_at;
 SET enable_seqscan = off;
 EXPLAIN (COSTS OFF) SELECT count(*) FROM events WHERE at < '2024-01-02T00:00:00Z';
 SELECT count(*) FROM events WHERE at < '2024-01-02T00:00:00Z';
+EXPLAIN (COSTS OFF) SELECT count(*) FROM events WHERE at < '2024-01-02 00:00:00+00'::timestamptz;
+SELECT count(*) FILTER (WHERE at < t) AS lt, count(*) FILTER (WHERE at <= t) AS le, count(*) FILTER (WHERE at = t) AS eq, count(*) FILTER (WHERE at >= t) AS ge, count(*) FILTER (WHERE at > t) AS gt
+FROM events, (VALUES ('2024-01-02 00:02:00+00'::timestamptz)) v (t);
+SELECT (SELECT count(*) FROM events WHERE at < t) AS lt, (SELECT count(*) FROM events WHERE at <= t) AS le, (SELECT count(*) FROM events WHERE at = t) AS eq, (SELECT count(*) FROM events WHERE at >= t) AS ge, (SELECT count(*) FROM events WHERE at > t) AS gt
+FROM (VALUES ('2024-01-02 00:02:00+00'::timestamptz)) v (t);
 RESET enable_seqscan;
 -- a parallel plan
 SET parallel_setup_cost = 0; SET parallel_tuple_cost = 0; SET min_parallel_table_scan_size = 0;

@@ -29,3 +29,18 @@ SELECT d FROM lengths ORDER BY d;
 INSERT INTO audit VALUES ('2023-12-31T23:30:00Z') ON CONFLICT (at) DO NOTHING;
 SELECT count(*) FROM audit;
 DROP TABLE audit, by_hash, booked, lengths;
+-- more digits write no table again, and fewer do
+CREATE TABLE digits (at offset_timestamp(3));
+INSERT INTO digits VALUES ('2024-02-29T00:00:00.123456789+01:00');
+SELECT pg_relation_filenode('digits') AS written \gset
+ALTER TABLE digits ALTER at TYPE offset_timestamp(6);
+SELECT pg_relation_filenode('digits') = :written AS is_kept;
+ALTER TABLE digits ALTER at TYPE offset_timestamp;
+SELECT pg_relation_filenode('digits') = :written AS is_kept;
+INSERT INTO digits VALUES ('2024-02-29T00:00:00.123456789+01:00');
+ALTER TABLE digits ALTER at TYPE offset_timestamp(9);
+SELECT pg_relation_filenode('digits') = :written AS is_kept;
+ALTER TABLE digits ALTER at TYPE offset_timestamp(2);
+SELECT pg_relation_filenode('digits') = :written AS is_kept;
+SELECT at, at::offset_timestamp(5)::offset_timestamp(1) AS one, '2024-02-29T00:00:00.123456789Z'::offset_timestamp::offset_timestamp(4) AS four FROM digits;
+DROP TABLE digits;

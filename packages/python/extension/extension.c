@@ -101,8 +101,102 @@ static PyObject *texts_from_timestamps(PyObject *self, PyObject *const *words, P
     return texts ? Py_BuildValue("(NI)", texts, status) : NULL;
 }
 
+/* How many moments become objects by one call of the library. */
+enum { MOMENTS_AT_ONCE = 128 };
+
+/* A list of the OffsetDateTime of each moment of a buffer, with the third word for each gap. With
+ * it the status of the first row that fails, which ends the list, or 0. */
+static PyObject *items_from_moments(PyObject *self, PyObject *const *words, Py_ssize_t count) {
+    Module *module = OWNER_OF_FUNCTION(self);
+    PyTypeObject *class = module->types[kind_OffsetDateTime];
+    Items items = {0};
+    PyObject *list;
+    uint32_t status = 0;
+    size_t start, done = 0;
+    if (!are("items_from_moments", count, 3) || !take_items(words, &items, 0)) return NULL;
+    list = PyList_New((Py_ssize_t)items.count);
+    for (start = 0; list && !status && start < items.count; start += MOMENTS_AT_ONCE) {
+        MuxanduDateTime shown[MOMENTS_AT_ONCE];
+        uint32_t statuses[MOMENTS_AT_ONCE];
+        const MuxanduMoment *rows = (const MuxanduMoment *)items.at + start;
+        size_t size = items.count - start < MOMENTS_AT_ONCE ? items.count - start : MOMENTS_AT_ONCE, place;
+        muxandu_date_times_from_each_moment(rows, size, shown, size, statuses, size);
+        for (place = 0; list && place < size; place++) {
+            int is_gap = rows[place].seconds == INT64_MIN;
+            PyObject *item = words[2];
+            if (statuses[place] && !is_gap) {
+                status = statuses[place];
+                break;
+            }
+            if (is_gap) {
+                Py_INCREF(item);
+            } else {
+                item = make_clock(module, class, shown[place], rows[place].seconds);
+            }
+            if (!item || PyList_SetItem(list, (Py_ssize_t)done++, item) < 0) Py_CLEAR(list);
+        }
+    }
+    drop_items(&items);
+    if (list && status && PyList_SetSlice(list, (Py_ssize_t)done, PyList_Size(list), NULL) < 0) Py_CLEAR(list);
+    return list ? Py_BuildValue("(NI)", list, status) : NULL;
+}
+
+/* Writes the moment of each item of a list, and a gap for None and for the third word. Returns how
+ * many it wrote: an item of another type, and an instant outside the range, end it. */
+static PyObject *moments_from_items(PyObject *self, PyObject *const *words, Py_ssize_t count) {
+    Module *module = OWNER_OF_FUNCTION(self);
+    PyTypeObject **types = module->types;
+    Py_buffer view;
+    Py_ssize_t done, size = count == 3 ? PyList_Size(words[0]) : -1;
+    MuxanduMoment *rows;
+    if (!are("moments_from_items", count, 3) || size < 0) return NULL;
+    if (PyObject_GetBuffer(words[1], &view, PyBUF_WRITABLE) < 0) return NULL;
+    if (view.len / (Py_ssize_t)sizeof *rows < size) size = view.len / (Py_ssize_t)sizeof *rows;
+    rows = view.buf;
+    for (done = 0; done < size; done++) {
+        PyObject *item = PyList_GetItem(words[0], done);
+        PyTypeObject *type = item ? Py_TYPE(item) : NULL;
+        MuxanduTimestamp at = {INT64_MIN, 0};
+        int32_t offset = 0;
+        if (type == types[kind_OffsetDateTime] || type == types[kind_UtcDateTime]) {
+            if (!has_instant(item, &at)) break;
+            offset = VALUE(Clock, item).offset_seconds;
+        } else if (type == types[kind_Timestamp]) {
+            at = VALUE(Timestamp, item);
+        } else if (item != Py_None && item != words[2]) {
+            break;
+        }
+        rows[done].seconds = at.seconds, rows[done].nanoseconds = at.nanoseconds, rows[done].offset_seconds = offset;
+    }
+    PyBuffer_Release(&view);
+    return PyLong_FromSsize_t(done);
+}
+
+/* The text of a clock by the items of a description: of a kind, the items and their number, and the
+ * clock. None for a value of another type, and for what has no text. */
+static PyObject *text_of_clock(PyObject *self, PyObject *const *words, Py_ssize_t count) {
+    PyTypeObject **types = OWNER_OF_FUNCTION(self)->types, *type;
+    Items items = {0};
+    char text[64];
+    MuxanduSpan span = {0, 0};
+    MuxanduBatch batch;
+    uint32_t kind;
+    if (!are("text_of_clock", count, 4) || !take_uint32_t(words[0], &kind)) return NULL;
+    type = Py_TYPE(words[3]);
+    if (type != types[kind_OffsetDateTime] && type != types[kind_UtcDateTime] && type != types[kind_PlainDateTime])
+        Py_RETURN_NONE;
+    if (!take_items(words + 1, &items, 0)) return NULL;
+    batch = muxandu_format_all(kind, items.at, items.count, &VALUE(Clock, words[3]), 1, text, sizeof text, &span, 1);
+    drop_items(&items);
+    if (batch.status) Py_RETURN_NONE;
+    return PyUnicode_DecodeASCII(text, (Py_ssize_t)span.length, NULL);
+}
+
 static PyMethodDef functions[] = {CALLS_OF_FUNCTIONS{"pack_texts", pack_texts, METH_O, NULL},
                                   {"texts_from_timestamps", FUNCTION(texts_from_timestamps), METH_FASTCALL, NULL},
+                                  {"text_of_clock", FUNCTION(text_of_clock), METH_FASTCALL, NULL},
+                                  {"moments_from_items", FUNCTION(moments_from_items), METH_FASTCALL, NULL},
+                                  {"items_from_moments", FUNCTION(items_from_moments), METH_FASTCALL, NULL},
                                   {"address", address, METH_O, NULL},
                                   {"bind", FUNCTION(bind), METH_FASTCALL, NULL},
                                   {0}};

@@ -3,6 +3,7 @@
 from __future__ import annotations
 
 import functools
+import re
 from typing import Any, Callable, NamedTuple, Optional
 
 from . import _extension as engine
@@ -60,7 +61,9 @@ def parts_of(value: Any) -> MuxanduDateTime:
 
 def format_value(kind: int, value: Any, pattern: str) -> str:
     """The text of a value by a description."""
-    return write_value(kind, of_pattern(pattern), parts_of(value))
+    described = of_pattern(pattern)
+    text = engine.text_of_clock(kind, described.items, described.size, value)
+    return write_value(kind, described, parts_of(value)) if text is None else text
 
 
 def parse_value(kind: int, text: Any, pattern: str) -> MuxanduDateTime:
@@ -84,9 +87,10 @@ def in_utc(read: Callable[[int, Any, str], MuxanduDateTime], text: Any, pattern:
 
 def strftime_value(kind: int, value: Any, pattern: str) -> str:
     """The text of a value by a pattern of `strftime`."""
-    made, described = parts_of(value), of_strftime(pattern)
-    test_offset(described, made.offset_seconds)
-    return write_value(kind, described, made)
+    described = of_strftime(pattern)
+    test_offset(described, getattr(value, "offset_seconds", 0))
+    text = engine.text_of_clock(kind, described.items, described.size, value)
+    return write_value(kind, described, parts_of(value)) if text is None else text
 
 
 def strptime_value(kind: int, text: Any, pattern: str) -> MuxanduDateTime:
@@ -248,6 +252,18 @@ def description_of_strftime(pattern: str) -> str:
             described, at = _directive(pattern, found + 1)
             made.append(described)
     return "".join(made)
+
+
+# A directive of the C library, with its flags and its width.
+_DIRECTIVE = re.compile(r"%[-_0^#+]*[0-9]*[EO]?(.)", re.DOTALL)
+
+
+def test_format(pattern: str) -> None:
+    """Tests that a pattern has no seconds since 1970, which the C library counts by the zone of the
+    machine. ValueError as of `strftime`."""
+    for found in _DIRECTIVE.finditer(pattern):
+        if found[1] == "s":
+            _directive(pattern, found.start() + 1)
 
 
 @functools.lru_cache(maxsize=512)

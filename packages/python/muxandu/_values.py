@@ -114,7 +114,10 @@ class _Formatted(_Described):
         return cls._read(_formats.strptime_value, text, pattern)
 
     def __format__(self, form: str) -> str:
-        return str(getattr(self, self._of_python)().strftime(form)) if "%" in form else format(str(self), form)
+        if "%" not in form:
+            return format(str(self), form)
+        _formats.test_format(form)
+        return str(getattr(self, self._of_python)().strftime(form))
 
 
 @_complete

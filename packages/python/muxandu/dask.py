@@ -11,7 +11,7 @@ import operator
 from typing import Any, Callable
 
 import pandas
-from dask.dataframe.dispatch import make_meta_dispatch, meta_nonempty
+from dask.dataframe.dispatch import hash_object_dispatch, make_meta_dispatch, meta_nonempty
 from dask.dataframe.extensions import make_array_nonempty, make_scalar, register_series_accessor
 
 from . import Duration, OffsetDateTime
@@ -83,3 +83,24 @@ def _two_items_of_series(series: Any) -> Any:
     if not isinstance(series.index.dtype, MomentDtype):
         return _series_of_pandas(series)
     return _series_of_pandas(series, idx=_two_items_of_index(series.index))
+
+
+_hash_of_pandas = hash_object_dispatch.dispatch(pandas.DataFrame)
+
+
+def _in_numbers(values: Any) -> Any:
+    """A column, an index or a table in which each moment is a number."""
+    if isinstance(values, pandas.DataFrame):
+        columns = {place: _in_numbers(values.iloc[:, place].array) for place in range(values.shape[1])}
+        return pandas.DataFrame(columns, _in_numbers(values.index))
+    if isinstance(values, pandas.Series):
+        return pandas.Series(_in_numbers(values.array), _in_numbers(values.index))
+    if not isinstance(values.dtype, MomentDtype):
+        return values
+    return pandas.Index(values.array._as_hashed()) if isinstance(values, pandas.Index) else values._as_hashed()
+
+
+@hash_object_dispatch.register((pandas.DataFrame, pandas.Series, pandas.Index))
+def _hash_of_rows(values: Any, index: bool = True, **words: Any) -> Any:
+    """The hash of each row, by which Dask finds its partition: equal for equal instants."""
+    return _hash_of_pandas(_in_numbers(values), index=index, **words)

@@ -14,7 +14,9 @@ months and texts. Each result comes from the calls over columns of muxandu.colum
 
 from __future__ import annotations
 
+import contextlib
 import datetime
+import functools
 import numbers
 from typing import Any, Callable, Union
 
@@ -24,6 +26,7 @@ from pandas.api.extensions import ExtensionArray, ExtensionDtype, register_exten
 from pandas.api.indexers import check_array_indexer
 from pandas.api.types import is_list_like
 
+from . import _extension as _engine
 from . import (
     MISSING,
     Date,
@@ -44,6 +47,7 @@ from ._blocks import COMPARE, DIFFERENCE, ROW, by_blocks, row_of
 from .columns import NO_SECOND
 from ._datetime64 import split, test_errors
 from ._missing import is_missing, places_of
+from ._refusals import REFUSALS
 from ._words import one_offset
 
 __all__ = ["MomentArray", "MomentDtype", "from_arrow", "from_block", "from_texts"]
@@ -63,6 +67,12 @@ _NO_LENGTH, _BLOCK = -(2**63), 131_072
 
 # The last second of the range, and how many seconds have nanoseconds that fit in 64 bits.
 _LAST_SECOND, _SECONDS_OF_NANOSECONDS = Timestamp.MAX.seconds, 2**63 // 1_000_000_000 - 1
+
+# The rows that become objects by one call.
+_ITEMS = 8_192
+
+# What a row compares with.
+_MOMENTS = (OffsetDateTime, UtcDateTime, Timestamp, datetime.datetime, numpy.datetime64, str)
 _UNITS = {unit.name.lower(): unit for unit in Unit}
 
 
@@ -88,6 +98,38 @@ class MomentDtype(ExtensionDtype):
         return MomentArray(numpy.concatenate(rows) if rows else numpy.zeros(0, ROW))
 
 
+def _read_keys_of_indexes() -> None:
+    """Makes an index of moments read a key that is a text or a datetime, for `in` and for `.loc`.
+    pandas finds a key by its hash, and lets no dtype read it first. Other indexes stay as they
+    are."""
+    contains, get_loc = pandas.Index.__contains__, pandas.Index.get_loc
+
+    def as_key(index: Any, key: Any) -> Any:
+        """The moment of a key. KeyError of a text that is none: pandas asks for names so."""
+        if not isinstance(key, (str, datetime.datetime)) or not isinstance(index.dtype, MomentDtype) or is_missing(key):
+            return key
+        try:
+            return _as_date_time(key)
+        except Refused as refused:
+            raise KeyError(key) from refused
+
+    @functools.wraps(contains)
+    def contains_moment(self: Any, key: Any) -> Any:
+        try:
+            return contains(self, as_key(self, key))
+        except KeyError:
+            return False
+
+    @functools.wraps(get_loc)
+    def get_loc_of_moment(self: Any, key: Any, *words: Any, **named: Any) -> Any:
+        return get_loc(self, as_key(self, key), *words, **named)
+
+    pandas.Index.__contains__, pandas.Index.get_loc = contains_moment, get_loc_of_moment
+
+
+_read_keys_of_indexes()
+
+
 def _rows_of_arrow(chunk: Any) -> Any:
     """The rows of a chunk of structures of Arrow."""
     rows = numpy.zeros(len(chunk), ROW)
@@ -98,14 +140,37 @@ def _rows_of_arrow(chunk: Any) -> Any:
 
 
 def _as_date_time(value: Any) -> OffsetDateTime:
-    """A value as a date-time at an offset."""
+    """A value as a date-time at an offset. A text is one of RFC 3339, or that of `str`."""
     if isinstance(value, OffsetDateTime):
         return value
     if isinstance(value, (Timestamp, UtcDateTime)):
         return value.to_offset(0)
+    if isinstance(value, str):
+        return _of_text(value)
+    if isinstance(value, numpy.datetime64) or isinstance(value, datetime.datetime) and value.utcoffset() is None:
+        raise ValueError(f"{value!r} has no offset: give it one, as pandas.Timestamp(..).tz_localize does")
     if isinstance(value, datetime.datetime):
         return OffsetDateTime.from_datetime(value)
     raise TypeError(f"an item must be an OffsetDateTime, a datetime with an offset or a text, not {type(value).__name__}")
+
+
+def _of_text(text: str) -> OffsetDateTime:
+    """The date-time of a text, as a column reads it. The error of a text of another form has the
+    byte at which it is no RFC 3339."""
+    try:
+        return OffsetDateTime.from_rfc3339(text)
+    except RefusedSyntax:
+        with contextlib.suppress(Refused):
+            return OffsetDateTime.from_text(text)
+        raise
+
+
+def _refuse_naive(values: Any) -> None:
+    """Raises a ValueError for a column of datetime64 without an offset, which shows the clocks of a
+    zone that only its owner knows."""
+    dtype = getattr(values, "dtype", None)
+    if getattr(dtype, "kind", "") == "M" and getattr(dtype, "tz", None) is None:
+        raise ValueError('a column of datetime64 has no offset: give it a zone, as .dt.tz_localize("UTC") does')
 
 
 def _rows_of_datetime64(values: Any) -> Any:
@@ -150,9 +215,12 @@ def _read_own_texts(items: list[Any], rows: Any, statuses: Any) -> None:
 
 def _rows_of_items(items: list[Any]) -> Any:
     """The rows of texts, or of date-times."""
+    made = numpy.zeros(len(items), ROW)
+    if _engine.moments_from_items(items, made, pandas.NA) == len(items):
+        return made
     gaps, rows = numpy.zeros(len(items), bool), numpy.zeros(len(items), ROW)
     gaps[places_of(items)] = True
-    if any(isinstance(item, str) for item in items):
+    if all(gap or isinstance(item, str) for gap, item in zip(gaps, items)):
         statuses = numpy.zeros(len(items), "uint32")
         columns.moments_from_each_rfc3339(items, out=rows, statuses=statuses)
         _read_own_texts(items, rows, statuses)
@@ -165,8 +233,8 @@ def _rows_of_items(items: list[Any]) -> Any:
 
 
 def _rows_of(values: Any, copy: bool = False) -> Any:
-    """The rows of a column: of moments, of datetime64, of a column of pandas with a time zone, of
-    texts or of date-times."""
+    """The rows of a column: of moments, of an array of datetime64, which is in UTC, of a column of
+    pandas with a time zone, of texts or of date-times."""
     if isinstance(values, (pandas.Series, pandas.Index)):
         values = values.array
     if isinstance(values, MomentArray):
@@ -175,22 +243,23 @@ def _rows_of(values: Any, copy: bool = False) -> Any:
         return values.copy() if copy else values
     if isinstance(getattr(values, "dtype", None), pandas.DatetimeTZDtype):
         return _rows_of_zoned(values)
-    if getattr(getattr(values, "dtype", None), "kind", "") == "M":
-        return _rows_of_datetime64(numpy.asarray(values))
+    if isinstance(values, numpy.ndarray) and values.dtype.kind == "M":
+        return _rows_of_datetime64(values)
+    _refuse_naive(values)
     return _rows_of_items(list(values))
 
 
 def _end_of(rows: Any, name: str) -> Any:
-    """The row of the first instant, for `min`, or of the last, for `max`; a gap is before each
-    instant. Of no rows it is a gap."""
+    """The row of the first instant, for `min`, or of the last, for `max`. Of no instants it is a
+    gap."""
     seconds, end = rows["seconds"], numpy.min if name == "min" else numpy.max
     blocks = [slice(start, start + _BLOCK) for start in range(0, len(rows), _BLOCK)]
-    ends: Any = [end(seconds[block]) for block in blocks]
-    places = [
-        block.start + numpy.flatnonzero(seconds[block] == end(ends)) for block, one in zip(blocks, ends) if one == end(ends)
-    ]
-    if not places:
+    # The second before that of a gap is the greatest of 64 bits, and no instant has it.
+    ends: Any = [int(end(seconds[block] - 1)) + 1 if name == "min" else int(end(seconds[block])) for block in blocks]
+    found = min(ends, default=NO_SECOND) if name == "min" else max(ends, default=NO_SECOND)
+    if found in (NO_SECOND, -NO_SECOND):
         return numpy.array(_GAP, ROW)
+    places = [block.start + numpy.flatnonzero(seconds[block] == found) for block, one in zip(blocks, ends) if one == found]
     at = numpy.concatenate(places)
     nanoseconds = rows["nanoseconds"][at]
     return rows[int(at[numpy.argmin(nanoseconds) if name == "min" else numpy.argmax(nanoseconds)])]
@@ -225,7 +294,7 @@ class MomentArray(ExtensionArray):
     @classmethod
     def _from_factorized(cls, values: Any, original: MomentArray) -> MomentArray:
         places, values = original._firsts(), numpy.asarray(values)
-        found, is_gap = original._values_for_factorize()[0][places], values != values
+        found, is_gap = original._values_for_factorize()[0][places], values == _NO_LENGTH
         order = numpy.argsort(found)
         at = numpy.searchsorted(found, values, sorter=order).clip(max=max(len(found) - 1, 0))
         rows = places[order][at] if len(found) else at
@@ -283,7 +352,13 @@ class MomentArray(ExtensionArray):
         self._rows[key] = rows if is_list_like(value) else rows[0]
 
     def __iter__(self) -> Any:
-        return map(self._item, self._rows)
+        for start in range(0, len(self), _ITEMS):
+            yield from _items_of(self._rows[start : start + _ITEMS])
+
+    def __array__(self, dtype: Any = None, copy: Any = None) -> Any:
+        """The items as an array of objects."""
+        items = numpy.fromiter(_items_of(self._rows), object, len(self))
+        return items if dtype is None else items.astype(dtype, copy=False)
 
     def take(self, indices: Any, *, allow_fill: bool = False, fill_value: Any = None) -> MomentArray:
         """The rows at these places; with `allow_fill` a place of -1 has the filling, which is a gap
@@ -321,12 +396,26 @@ class MomentArray(ExtensionArray):
         return self._ranks()
 
     def _values_for_factorize(self) -> tuple[Any, Any]:
-        """A number for each instant, and that of a gap, the same in each column. pandas merges two
-        columns by it, and Dask sends a row to a partition by its hash."""
-        seconds, gaps = self._rows["seconds"].astype("complex128"), self.isna()
-        seconds.imag = self._rows["nanoseconds"]
-        seconds[gaps] = _NO_NUMBER
-        return seconds, _NO_NUMBER
+        """The nanoseconds of each instant from 1970 on, and the number of a gap, the same in each
+        column: of 64 bits where those of all rows fit, else whole numbers of Python. pandas merges
+        two columns by them, and sorts them."""
+        seconds, nanoseconds, gaps = self._rows["seconds"], self._rows["nanoseconds"], self.isna()
+        if (numpy.abs(numpy.where(gaps, 0, seconds)) < _FIRST_LONG).all():
+            return numpy.where(gaps, _NO_LENGTH, seconds * 1_000_000_000 + nanoseconds), _NO_LENGTH
+        numbers = seconds.astype(object) * 1_000_000_000 + nanoseconds.astype(object)
+        numbers[gaps] = _NO_LENGTH
+        return numbers, _NO_LENGTH
+
+    def _as_hashed(self) -> Any:
+        """A number of 128 bits for each instant, the same in each column. Dask sends a row to a
+        partition by its hash."""
+        numbers, gaps = self._rows["seconds"].astype("complex128"), self.isna()
+        numbers.imag = self._rows["nanoseconds"]
+        numbers[gaps] = _NO_NUMBER
+        return numbers
+
+    def _hash_pandas_object(self, *, encoding: str, hash_key: str, categorize: bool) -> Any:
+        return pandas.util.hash_array(self._as_hashed(), encoding, hash_key, categorize)
 
     def _rank(
         self, *, axis: int = 0, method: str = "average", na_option: str = "keep", ascending: bool = True, pct: bool = False
@@ -357,6 +446,13 @@ class MomentArray(ExtensionArray):
 
     # Gaps that are filled from other rows.
 
+    def fillna(self, value: Any = None, method: Any = None, limit: Any = None, copy: bool = True) -> MomentArray:
+        """The column with its gaps filled by a value, or by rows before or after them. pandas
+        before 2.1 calls this for both."""
+        if method is not None and value is None:
+            return self._pad_or_backfill(method=method, limit=limit, copy=copy)
+        return super().fillna(value, limit=limit, **({} if method is None else {"method": method}))
+
     def _pad_or_backfill(self, *, method: Any, limit: Any = None, limit_area: Any = None, copy: bool = True) -> MomentArray:
         """The column in which a gap has the row before it, for `pad`, or the row after it, at most
         `limit` gaps in sequence. With a `limit_area` these are gaps between rows, for `inside`, or
@@ -375,6 +471,36 @@ class MomentArray(ExtensionArray):
             is_between = numpy.logical_or.accumulate(known) & numpy.logical_or.accumulate(known[::-1])[::-1]
             before[~known & (is_between if limit_area == "outside" else ~is_between)] = -1
         return self.take(before, allow_fill=True)
+
+    def factorize(self, na_sentinel: Any = -1, use_na_sentinel: Any = True) -> tuple[Any, MomentArray]:
+        """The number of each instant in the order of their first rows, the sentinel for a gap, and
+        these rows."""
+        is_marked = use_na_sentinel is not False and na_sentinel is not None
+        known = ~self.isna() if is_marked else numpy.ones(len(self), bool)
+        codes = numpy.full(len(self), na_sentinel if isinstance(na_sentinel, int) else -1)
+        keys = self._values_for_factorize()[0]
+        codes[known], found = pandas.factorize(keys[known])
+        firsts, places = numpy.zeros(len(found), "intp"), numpy.flatnonzero(known)[::-1]
+        firsts[codes[places]] = places
+        return codes, MomentArray(self._rows[firsts])
+
+    def isin(self, values: Any) -> Any:
+        """Which rows have the instant of one of these values: date-times or their texts. No row has
+        the instant of what is no moment."""
+        _refuse_naive(values)
+        if not isinstance(getattr(values, "dtype", None), (MomentDtype, pandas.DatetimeTZDtype)):
+            values = [item for item in values if is_missing(item) or isinstance(item, _MOMENTS)]
+        keys, others = (column._values_for_factorize()[0] for column in (self, MomentArray(_rows_of(values))))
+        return pandas.Series(keys).isin(others).to_numpy()
+
+    def searchsorted(self, value: Any, side: Any = "left", sorter: Any = None) -> Any:
+        """The places at which moments, or their texts, keep the order of a sorted column."""
+        is_many = is_list_like(value)
+        keys, others = (
+            column._values_for_factorize()[0] for column in (self, MomentArray(_rows_of(value if is_many else [value])))
+        )
+        places: Any = numpy.searchsorted(keys, others, side, sorter)
+        return places if is_many else places[0]
 
     def _firsts(self) -> Any:
         """The places of the first row of each instant."""
@@ -410,15 +536,31 @@ class MomentArray(ExtensionArray):
     def _compare(self, other: Any, compare: Callable[..., Any]) -> Any:
         if isinstance(other, (pandas.Series, pandas.Index, pandas.DataFrame)):
             return NotImplemented
-        if is_list_like(other) and len(other) != len(self):
+        if not is_list_like(other):
+            return self._compare_one(other, compare)
+        if len(other) != len(self):
             raise ValueError("Lengths must match")
-        if not is_list_like(other) and is_missing(other):
-            return pandas.arrays.BooleanArray(numpy.zeros(len(self), bool), numpy.ones(len(self), bool))
+        _refuse_naive(other)
         try:
-            found = _rows_of(other) if is_list_like(other) else _as_date_time(other)
-        except (TypeError, ValueError):
+            return self._comparison(_rows_of(other), compare)
+        except TypeError:
+            return self._compare_each(list(other), compare)
+
+    def _compare_one(self, other: Any, compare: Callable[..., Any]) -> Any:
+        """How each row compares with a value. A text that is no moment is an error."""
+        if is_missing(other):
+            return pandas.arrays.BooleanArray(numpy.zeros(len(self), bool), numpy.ones(len(self), bool))
+        if not isinstance(other, _MOMENTS):
             return self._unlike(compare)
-        return self._comparison(found, compare)
+        return self._comparison(_as_date_time(other), compare)
+
+    def _compare_each(self, others: list[Any], compare: Callable[..., Any]) -> Any:
+        """How each row compares with its item of a list in which some are no moments."""
+        alike = numpy.array([is_missing(item) or isinstance(item, _MOMENTS) for item in others], bool)
+        found = self._unlike(compare)
+        rows = _rows_of([item for item, is_like in zip(others, alike) if is_like])
+        found[alike] = self[alike]._comparison(rows, compare)
+        return found
 
     def _unlike(self, compare: Callable[..., Any]) -> Any:
         """The comparison with what is no moment: equal to none, and without an order."""
@@ -483,7 +625,14 @@ class MomentArray(ExtensionArray):
     def __sub__(self, other: Any) -> Any:
         if isinstance(other, (MomentArray, OffsetDateTime)):
             return self.since(other)
+        if isinstance(other, datetime.datetime) and not is_missing(other):
+            return self.since(_as_date_time(other))
         return self._sum(other, columns.moments_subtract, columns.each_moment_subtract)
+
+    def __rsub__(self, other: Any) -> Any:
+        if not isinstance(other, (OffsetDateTime, datetime.datetime)) or is_missing(other):
+            return NotImplemented
+        return -self.since(_as_date_time(other))
 
     def since(self, other: Any) -> Any:
         """The timedelta64 to each moment from the one of another column, or from one for all.
@@ -510,9 +659,7 @@ class MomentArray(ExtensionArray):
         if name not in ("min", "max"):
             raise TypeError(f"a column of moments has no {name}")
         found = self._item(_end_of(self._rows, name))
-        if skipna and found is pandas.NA:
-            found = self._item(_end_of(self._rows[~self.isna()], name))
-        elif not skipna and self.isna().any():
+        if not skipna and self.isna().any():
             found = pandas.NA
         return self._from_sequence([found]) if keepdims else found
 
@@ -619,6 +766,14 @@ def _unit(unit: Union[str, Unit]) -> Unit:
             raise ValueError(f"a unit is one of {', '.join(_UNITS)}, not {unit!r}")
         return _UNITS[unit.lower()]
     return unit
+
+
+def _items_of(rows: Any) -> list[Any]:
+    """The date-time of each row, and NA for a gap."""
+    items, status = _engine.items_from_moments(numpy.ascontiguousarray(rows), len(rows), pandas.NA)
+    if status:
+        raise REFUSALS[status](len(items))
+    return list(items)
 
 
 def _text(moment: OffsetDateTime) -> str:

@@ -6,6 +6,7 @@ import datetime
 import io
 import random
 import unittest
+from unittest import mock
 
 from muxandu import OffsetDateTime, RefusedOffsetSeconds, RefusedSyntax, fields
 
@@ -89,10 +90,20 @@ class LocalTexts(unittest.TestCase):
                     call(texts, offsets)
 
     def test_offsets_in_the_memory_of_the_statuses(self):
-        held = array.array("i", [3_600, 7_200, 5])
+        held = array.array("i", [0] * 3)
         statuses = memoryview(held).cast("B").cast("I")[1:]
-        rows, _ = fields.moments_from_each_local(["1970-01-01T00:00:00"] * 2, memoryview(held)[:2], statuses=statuses)
-        self.assertEqual(([row.offset_seconds for row in rows], list(statuses)), ([3_600, 7_200], [0, 0]))
+        call = fields._engine.moments_from_each_local_at
+
+        def write_first(*words):
+            """The call of a library that writes each status before it reads an offset."""
+            statuses[0] = statuses[1] = 0
+            return call(*words)
+
+        for library in (call, write_first):
+            held[:] = array.array("i", [3_600, 7_200, 5])
+            with mock.patch.object(fields._engine, "moments_from_each_local_at", library):
+                rows, _ = fields.moments_from_each_local(["1970-01-01T00:00:00"] * 2, memoryview(held)[:2], statuses=statuses)
+            self.assertEqual(([row.offset_seconds for row in rows], list(statuses)), ([3_600, 7_200], [0, 0]))
 
     def test_random_clocks(self):
         pick = random.Random(59)

@@ -312,6 +312,19 @@ class Strftime(unittest.TestCase):
         self.assertRaises(ValueError, OffsetDateTime(2024, 1, 1, offset_seconds=1).strftime, "%z")
         self.assertEqual(description_of_strftime("%d.%m.%Y [%H]"), "[day].[month].[year] \\[[hour]\\]")
 
+    def test_a_format_has_no_seconds_since_1970(self):
+        """Which the C library counts by the zone of the machine: an f-string raises what `strftime` raises."""
+        for value in (AT, AT.to_utc(), AT.date_time(), AT.to_timestamp(), AT.date(), AT.time()):
+            for pattern in ("%s", "%d %s", "%s%%", "%%%s", "%-s", "%10s", "%_s", "%Es"):
+                told = []
+                for call in (value.strftime, lambda pattern: format(value, pattern)):
+                    with self.assertRaises(ValueError) as caught:
+                        call(pattern)
+                    told.append(str(caught.exception))
+                self.assertEqual(told[0], told[1])
+                self.assertIn("of " + repr(pattern), told[0])
+        self.assertEqual((f"{AT:%%s %d}", f"{AT:%d%%%%s}", f"{AT:%S}", f"{AT.date():%b s}"), ("%s 29", "29%%s", "56", "Feb s"))
+
 
 if __name__ == "__main__":
     unittest.main()

@@ -97,11 +97,45 @@ BY_OWN = (
 MODULES = [name for name in ("_interpreters", "_xxsubinterpreters") if importlib.util.find_spec(name)]
 
 
+# The extension is imported once more, alone since caches of Python's typing keep a package, and let go of. No type of it may be left,
+# and the first import goes on. For a class of a program it looks at each import that is there, and freed memory has no addresses.
+LET_GO = """
+import gc, importlib.util
+import muxandu as m
+from muxandu import _extension as first
+
+NAMES = {name for name, value in vars(first).items() if isinstance(value, type)}
+
+class Own(m.Timestamp):
+    pass
+
+def count_types():
+    gc.collect()
+    return sum(type(it) is type and it.__name__ in NAMES for it in gc.get_objects())
+
+before = count_types()
+spec = importlib.util.spec_from_file_location(first.__name__, first.__file__)
+second = importlib.util.module_from_spec(spec)
+spec.loader.exec_module(second)
+assert second.Timestamp is not first.Timestamp
+assert second.Timestamp(7) + second.Duration(1) == second.Timestamp(8)
+assert count_types() == before + len(NAMES)
+del second
+assert count_types() == before, f"{count_types() - before} types are left"
+assert Own(7) + m.Duration(1) == m.Timestamp(8)
+print("right")
+"""
+
+
 class Imports(unittest.TestCase):
     @unittest.skipUnless(MODULES, "this Python has no second interpreter")
     def test_a_second_interpreter_leaves_the_first_as_it_is(self):
         program = INTERPRETERS.format(*(BY_OWN if MODULES[0] == "_interpreters" else BY_XX))
         second = ended(program)
+        self.assertEqual((second.returncode, second.stdout, second.stderr), (0, "right\n", ""))
+
+    def test_an_import_that_is_let_go_of_leaves_nothing(self):
+        second = ended(LET_GO, PYTHONMALLOC="malloc_debug")
         self.assertEqual((second.returncode, second.stdout, second.stderr), (0, "right\n", ""))
 
     def test_a_second_import_leaves_the_first_as_it_is(self):

@@ -189,6 +189,14 @@ class Laws(unittest.TestCase):
             check_order(self, second, first)
             check_order(self, first, copy.copy(first))
 
+    def test_is_same_compares_each_part(self):
+        """Date-times that differ in one part alone are not the same, also where that is the offset."""
+        at = OffsetDateTime(2024, 2, 28, 5, 6, 7, 8, 60)
+        self.assertTrue(at.is_same(copy.copy(at)))
+        for name in ("year", "month", "day", "hour", "minute", "second", "nanosecond", "offset_seconds"):
+            other = at.replace(**{name: getattr(at, name) + 1})
+            self.assertEqual((at.is_same(other), other.is_same(at)), (False, False), name)
+
     def test_copies_and_texts(self):
         for kind, make in MAKERS.items():
             with self.subTest(kind.__name__):
@@ -321,6 +329,10 @@ class Kept(unittest.TestCase):
         "a list of refused texts": lambda: refused(lambda: muxandu.timestamps_from_rfc3339([TEXT, "x"])),
         "a list of instants": lambda: muxandu.rfc3339_from_timestamps([Timestamp(0)] * 3),
         "seconds": lambda: muxandu.date_times_from_seconds(array("q", [0, 1])),
+        "moments as objects": lambda: engine.items_from_moments(bytearray(48), 3, None),
+        "moments as objects, up to one out of range": lambda: engine.items_from_moments(b"\0" * 20 + b"\xff" * 28, 3, None),
+        "objects as moments": lambda: engine.moments_from_items([None, Timestamp(0)], bytearray(32), None),
+        "a text by a description": lambda: OffsetDateTime(2024, 1, 1).format("[year]"),
         "an instant and a date-time": lambda: (
             Timestamp(0) - OffsetDateTime(2024, 1, 1),
             Timestamp(0) < OffsetDateTime(2024, 1, 1),

@@ -5,22 +5,14 @@ use crate::{Date, PlainDateTime, RangeResult, SignedDuration, Time, Weekday};
 impl Date {
     /// The day of the week that comes next after this day, if the range has it.
     #[must_use]
-    pub fn checked_next_occurrence(self, weekday: Weekday) -> Option<Date> {
-        let mut date = self.next_day()?;
-        while date.weekday() != weekday {
-            date = date.next_day()?;
-        }
-        Some(date)
+    pub const fn checked_next_occurrence(self, weekday: Weekday) -> Option<Date> {
+        self.checked_add_days(self.weekday().days_to_next(weekday))
     }
 
     /// The day of the week that came last before this day, if the range has it.
     #[must_use]
-    pub fn checked_prev_occurrence(self, weekday: Weekday) -> Option<Date> {
-        let mut date = self.previous_day()?;
-        while date.weekday() != weekday {
-            date = date.previous_day()?;
-        }
-        Some(date)
+    pub const fn checked_prev_occurrence(self, weekday: Weekday) -> Option<Date> {
+        self.checked_add_days(-weekday.days_to_next(self.weekday()))
     }
 
     /// The day of the week that comes next after this day.
@@ -40,7 +32,7 @@ impl Date {
     /// The range does not have it.
     #[must_use]
     #[track_caller]
-    pub fn next_occurrence(self, weekday: Weekday) -> Date {
+    pub const fn next_occurrence(self, weekday: Weekday) -> Date {
         self.nth_next_occurrence(weekday, 1)
     }
 
@@ -51,7 +43,7 @@ impl Date {
     /// The range does not have it.
     #[must_use]
     #[track_caller]
-    pub fn prev_occurrence(self, weekday: Weekday) -> Date {
+    pub const fn prev_occurrence(self, weekday: Weekday) -> Date {
         self.nth_prev_occurrence(weekday, 1)
     }
 
@@ -62,10 +54,8 @@ impl Date {
     /// The range does not have it, or `n` is 0.
     #[must_use]
     #[track_caller]
-    pub fn nth_next_occurrence(self, weekday: Weekday, n: u8) -> Date {
-        let weeks = weeks_past_first(n);
-        let first = self.checked_next_occurrence(weekday);
-        first.and_then(|first| first.checked_add(weeks)).expect(NO_OCCURRENCE)
+    pub const fn nth_next_occurrence(self, weekday: Weekday, n: u8) -> Date {
+        self.at_occurrence(self.weekday().days_to_next(weekday) + days_past_first(n))
     }
 
     /// The `n`th day of the week before this day.
@@ -75,26 +65,39 @@ impl Date {
     /// The range does not have it, or `n` is 0.
     #[must_use]
     #[track_caller]
-    pub fn nth_prev_occurrence(self, weekday: Weekday, n: u8) -> Date {
-        let weeks = weeks_past_first(n);
-        let last = self.checked_prev_occurrence(weekday);
-        last.and_then(|last| last.checked_sub(weeks)).expect(NO_OCCURRENCE)
+    pub const fn nth_prev_occurrence(self, weekday: Weekday, n: u8) -> Date {
+        self.at_occurrence(-weekday.days_to_next(self.weekday()) - days_past_first(n))
+    }
+
+    /// The day `days` later, which the range must have.
+    #[track_caller]
+    const fn at_occurrence(self, days: i64) -> Date {
+        match self.checked_add_days(days) {
+            Some(date) => date,
+            None => panic!("{}", NO_OCCURRENCE),
+        }
     }
 
     /// The day later by the whole days of a duration, or the end of the range that it is beyond.
     #[must_use]
     #[inline]
-    pub fn saturating_add(self, duration: SignedDuration) -> Date {
+    pub const fn saturating_add(self, duration: SignedDuration) -> Date {
         let end = if duration.is_negative() { Date::MIN } else { Date::MAX };
-        self.checked_add(duration).unwrap_or(end)
+        match self.checked_add(duration) {
+            Some(date) => date,
+            None => end,
+        }
     }
 
     /// The day earlier by the whole days of a duration, or the end of the range that it is beyond.
     #[must_use]
     #[inline]
-    pub fn saturating_sub(self, duration: SignedDuration) -> Date {
+    pub const fn saturating_sub(self, duration: SignedDuration) -> Date {
         let end = if duration.is_negative() { Date::MAX } else { Date::MIN };
-        self.checked_sub(duration).unwrap_or(end)
+        match self.checked_sub(duration) {
+            Some(date) => date,
+            None => end,
+        }
     }
 
     /// The day at 0:00.
@@ -115,11 +118,11 @@ impl Date {
 const NO_OCCURRENCE: &str =
     "the day is out of range: use `checked_next_occurrence` or `checked_prev_occurrence`";
 
-/// The duration from the first day of some that are a week apart to the `n`th.
+/// The days from the first of some days that are a week apart to the `n`th.
 #[track_caller]
-fn weeks_past_first(n: u8) -> SignedDuration {
+const fn days_past_first(n: u8) -> i64 {
     assert!(n > 0, "the first occurrence has the number 1");
-    SignedDuration::weeks(i64::from(n) - 1)
+    SignedDuration::weeks(n as i64 - 1).whole_days()
 }
 
 /// The day at the time of day that a call of `Time` makes.
@@ -129,8 +132,11 @@ macro_rules! with_parts {
             $(
                 $(#[$doc])*
                 #[inline]
-                pub fn $name(self, $($part: $Part),+) -> RangeResult<PlainDateTime> {
-                    Ok(self.with_time(Time::$make($($part),+)?))
+                pub const fn $name(self, $($part: $Part),+) -> RangeResult<PlainDateTime> {
+                    match Time::$make($($part),+) {
+                        Ok(time) => Ok(self.with_time(time)),
+                        Err(refused) => Err(refused),
+                    }
                 }
             )+
         }

@@ -72,9 +72,13 @@ mod text;
 mod time;
 mod unit;
 mod utc_offset;
+pub mod util;
 
+#[doc(inline)]
 pub use error::Error;
+#[doc(inline)]
 pub use proved::local_texts;
+#[doc(inline)]
 pub use proved::{
     Date, Month, OffsetDateTime, PlainDateTime, SignedDuration, Text, TextRefusal, Time, Timestamp,
     UtcDateTime, UtcOffset, Weekday, days_in_month, days_in_year, is_leap_year,

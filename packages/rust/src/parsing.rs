@@ -336,6 +336,55 @@ offset_parts! {
     offset_second_signed set_offset_second_signed with_offset_second_signed: offset_second, [offset_hour offset_minute];
 }
 
+/// The older names of parts of an offset, without their sign.
+impl Parsed {
+    /// The minutes of the offset, if they are known.
+    #[deprecated(note = "use `offset_minute_signed`")]
+    #[must_use]
+    pub const fn offset_minute(&self) -> Option<u8> {
+        match self.offset_minute_signed() {
+            Some(minute) => Some(minute.unsigned_abs()),
+            None => None,
+        }
+    }
+
+    /// The seconds of the offset, if they are known.
+    #[deprecated(note = "use `offset_second_signed`")]
+    #[must_use]
+    pub const fn offset_second(&self) -> Option<u8> {
+        match self.offset_second_signed() {
+            Some(second) => Some(second.unsigned_abs()),
+            None => None,
+        }
+    }
+
+    /// Sets the minutes of the offset.
+    #[deprecated(note = "use `set_offset_minute_signed`")]
+    pub const fn set_offset_minute(&mut self, value: u8) -> Option<()> {
+        if value > i8::MAX as u8 { None } else { self.set_offset_minute_signed(value as i8) }
+    }
+
+    /// Sets the seconds of the offset.
+    #[deprecated(note = "use `set_offset_second_signed`")]
+    pub const fn set_offset_second(&mut self, value: u8) -> Option<()> {
+        if value > i8::MAX as u8 { None } else { self.set_offset_second_signed(value as i8) }
+    }
+
+    /// The same with these minutes of the offset.
+    #[deprecated(note = "use `with_offset_minute_signed`")]
+    #[must_use]
+    pub const fn with_offset_minute(self, value: u8) -> Option<Parsed> {
+        if value > i8::MAX as u8 { None } else { self.with_offset_minute_signed(value as i8) }
+    }
+
+    /// The same with these seconds of the offset.
+    #[deprecated(note = "use `with_offset_second_signed`")]
+    #[must_use]
+    pub const fn with_offset_second(self, value: u8) -> Option<Parsed> {
+        if value > i8::MAX as u8 { None } else { self.with_offset_second_signed(value as i8) }
+    }
+}
+
 /// The part that an error names.
 const fn part_of(field: Field) -> Part {
     match field {
@@ -527,10 +576,10 @@ mod sealed {
     impl Sealed for Rfc2822 {
         fn parse_into<'a>(&self, input: &'a [u8], parsed: &mut Parsed) -> Result<&'a [u8], Parse> {
             let rest = crate::rfc2822::read(input, parsed)?;
-            if parsed.parts.second == Some(60)
-                && let Ok((at, _)) = parsed.parts.leap_date_time()
-            {
-                parsed.set_date_time(at);
+            if parsed.parts.second == Some(60) {
+                if let Ok((at, _)) = parsed.parts.leap_date_time() {
+                    parsed.set_date_time(at);
+                }
             }
             Ok(rest)
         }

@@ -1,5 +1,5 @@
-//! Texts of RFC 2822: their spaces, their day of the week and their zones by hand, the rest by
-//! descriptions.
+//! Texts of RFC 2822: their spaces, their day of the week, their years and their zones by hand, the
+//! rest by descriptions.
 
 use crate::error::ParseFromDescription;
 use crate::format_description::StaticFormatDescription;
@@ -11,7 +11,6 @@ const WEEKDAY: StaticFormatDescription =
 const DAY: StaticFormatDescription = format_description!("[day padding:none]");
 const MONTH: StaticFormatDescription =
     format_description!("[month repr:short case_sensitive:false]");
-const YEAR: StaticFormatDescription = format_description!("[year]");
 const HOUR: StaticFormatDescription = format_description!("[hour]");
 const MINUTE: StaticFormatDescription = format_description!("[minute]");
 const SECOND: StaticFormatDescription = format_description!("[second]");
@@ -44,13 +43,30 @@ fn after_mark(input: &[u8], mark: u8) -> Option<&[u8]> {
     input.trim_ascii_start().strip_prefix(&[mark]).map(<[u8]>::trim_ascii_start)
 }
 
+/// Reads a year from 1900 on, with four digits, or with two of 1950 to 2049, as in older texts.
+fn year<'a>(input: &'a [u8], parsed: &mut Parsed) -> Result<&'a [u8], ParseFromDescription> {
+    let count = input.iter().take_while(|byte| byte.is_ascii_digit()).count();
+    let (digits, rest) = input.split_at(count);
+    let number =
+        digits.iter().take(4).fold(0, |number, digit| number * 10 + i32::from(digit - b'0'));
+    let year = match (count, number) {
+        (2, 0..50) => 2_000 + number,
+        (2, _) => 1_900 + number,
+        (4, 1_900..) => number,
+        _ => return Err(ParseFromDescription::InvalidComponent("year")),
+    };
+    let _ = parsed.set_year(year);
+    Ok(rest)
+}
+
 fn zone<'a>(input: &'a [u8], parsed: &mut Parsed) -> Result<&'a [u8], ParseFromDescription> {
     for (name, hours) in ZONES {
-        if let Some((front, rest)) = input.split_at_checked(name.len())
-            && front.eq_ignore_ascii_case(name)
-        {
-            let _ = parsed.set_offset_hour(hours);
-            return Ok(rest);
+        match input.split_at_checked(name.len()) {
+            Some((front, rest)) if front.eq_ignore_ascii_case(name) => {
+                let _ = parsed.set_offset_hour(hours);
+                return Ok(rest);
+            }
+            _ => {}
         }
     }
     match input {
@@ -77,7 +93,7 @@ pub(crate) fn read<'a>(
     }
     rest = after_space(parsed.parse_items(rest, DAY)?)?;
     rest = after_space(parsed.parse_items(rest, MONTH)?)?;
-    rest = after_space(parsed.parse_items(rest, YEAR)?)?;
+    rest = after_space(year(rest, parsed)?)?;
     rest = parsed.parse_items(rest, HOUR)?;
     rest = after_mark(rest, b':').ok_or(ParseFromDescription::InvalidLiteral)?;
     rest = parsed.parse_items(rest, MINUTE)?;

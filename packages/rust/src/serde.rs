@@ -80,6 +80,8 @@ macro_rules! option {
 #[cfg(feature = "serde-human-readable")]
 mod human;
 #[cfg(feature = "serde-well-known")]
+pub mod rfc2822;
+#[cfg(feature = "serde-well-known")]
 pub mod rfc3339;
 pub mod text;
 pub mod timestamp;

@@ -164,8 +164,8 @@ impl SignedDuration {
     }
 }
 
-/// Products and quotients with numbers that have a point: those of `as_seconds_f64`, as
-/// `seconds_f64` rounds them.
+/// Products and quotients with numbers that have a point: the nearest nanosecond, and the even one
+/// where two are as near.
 macro_rules! fractional_factors {
     ($($Factor:ident)+) => {
         $(
@@ -175,7 +175,8 @@ macro_rules! fractional_factors {
                 #[track_caller]
                 #[inline]
                 fn mul(self, factor: $Factor) -> SignedDuration {
-                    SignedDuration::seconds_f64(self.as_seconds_f64() * f64::from(factor))
+                    let product = fractional::product(self.whole_nanoseconds(), f64::from(factor));
+                    product.and_then(SignedDuration::of_nanoseconds).expect(TOO_LONG)
                 }
             }
 
@@ -195,7 +196,8 @@ macro_rules! fractional_factors {
                 #[track_caller]
                 #[inline]
                 fn div(self, divisor: $Factor) -> SignedDuration {
-                    SignedDuration::seconds_f64(self.as_seconds_f64() / f64::from(divisor))
+                    let quotient = fractional::quotient(self.whole_nanoseconds(), f64::from(divisor));
+                    quotient.and_then(SignedDuration::of_nanoseconds).expect(TOO_LONG)
                 }
             }
 

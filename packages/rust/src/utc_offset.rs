@@ -10,14 +10,14 @@ impl UtcOffset {
     /// The whole minutes, towards zero.
     #[must_use]
     #[inline]
-    pub fn whole_minutes(self) -> i16 {
+    pub const fn whole_minutes(self) -> i16 {
         (self.whole_seconds() / 60) as i16
     }
 
     /// Whether clocks show more than in UTC.
     #[must_use]
     #[inline]
-    pub fn is_positive(self) -> bool {
+    pub const fn is_positive(self) -> bool {
         self.whole_seconds() > 0
     }
 }

@@ -6,7 +6,7 @@ use muxandu::ext::{NumericalDuration, NumericalStdDuration};
 use muxandu::macros::{date, datetime, offset, time, timestamp, utc_datetime};
 use muxandu::{
     Date, Duration, Month, OffsetDateTime, PlainDateTime, PrimitiveDateTime, Refusal,
-    SignedDuration, Time, Timestamp, Unit, UtcDateTime, UtcOffset, Weekday, days_in_month,
+    SignedDuration, Time, Timestamp, Unit, UtcDateTime, UtcOffset, Weekday, days_in_month, util,
 };
 
 fn name<T>(result: Result<T, muxandu::error::ComponentRange>) -> (&'static str, bool) {
@@ -50,6 +50,24 @@ fn dates_show() {
     assert_eq!((days_in_month(2024, Month::February), Month::February.length(2023)), (29, 28));
     assert_eq!((Month::February.length(1900), Month::February.length(2000)), (28, 29));
     assert_eq!((Date::MIN.weekday(), Date::MAX.weekday()), (Weekday::Monday, Weekday::Friday));
+}
+
+// The weeks are those of the last 28 December by Python's `isocalendar`.
+#[test]
+#[allow(deprecated)]
+fn months_and_years_have_lengths() {
+    const LEAP: (u8, u8, u8) = (
+        util::days_in_month(Month::February, 2024),
+        util::days_in_year_month(2023, Month::February),
+        util::weeks_in_year(2020),
+    );
+    assert_eq!(LEAP, (29, 28, 53));
+    assert_eq!((util::days_in_year(1900), util::days_in_year(2000)), (365, 366));
+    assert_eq!((util::is_leap_year(1900), util::is_leap_year(2000)), (false, true));
+    let short = [1, 1900, 2000, 2019, 2024, 9999];
+    let long = [4, 1976, 2004, 2020, 2026];
+    assert!(short.iter().all(|year| util::weeks_in_year(*year) == 52));
+    assert!(long.iter().all(|year| util::weeks_in_year(*year) == 53));
 }
 
 #[test]
@@ -381,6 +399,14 @@ fn durations() {
     assert_eq!(SignedDuration::seconds_f64(-(2_f64.powi(63))).whole_seconds(), i64::MIN);
     assert_eq!((1.5 * 1.hours(), 1.hours() / 4_u8), (90.minutes(), 15.minutes()));
     assert_eq!(1.hours() + 30.std_minutes(), SignedDuration::seconds_f32(5_400.0));
+    for duration in [SignedDuration::new(10_000_000_000, 1), SignedDuration::MAX] {
+        assert_eq!((duration * 1.0, duration / -1.0), (duration, -duration));
+        assert_eq!((duration * 0.0, duration / f64::INFINITY), (Duration::ZERO, Duration::ZERO));
+        for factor in [2e20, f64::INFINITY, f64::NAN] {
+            assert!(std::panic::catch_unwind(|| duration * factor).is_err(), "{factor}");
+        }
+        assert!(std::panic::catch_unwind(|| duration / 0.0).is_err());
+    }
     assert!(1.hours() < 61.std_minutes() && StdDuration::MAX > SignedDuration::MAX);
     assert_eq!(1.std_hours(), 60.minutes());
     assert_eq!(SignedDuration::MAX.checked_add(1.nanoseconds()), None);

@@ -73,3 +73,72 @@ fn date_times_are_constants() {
         (1969, Month::January, (23, 59, 59))
     );
 }
+
+#[test]
+fn dates_at_times_are_constants() {
+    const START: PlainDateTime = ok!(DAY.with_hms(9, 30, 15));
+    const PARTS: [PlainDateTime; 3] = [
+        ok!(DAY.with_hms_milli(9, 30, 15, 0)),
+        ok!(DAY.with_hms_micro(9, 30, 15, 0)),
+        ok!(DAY.with_hms_nano(9, 30, 15, 0)),
+    ];
+    const IS_REFUSED: bool = DAY.with_hms(24, 0, 0).is_err();
+    const ENDS: [Date; 4] = [
+        DAY.saturating_add(Duration::MAX),
+        DAY.saturating_add(Duration::MIN),
+        DAY.saturating_sub(Duration::MAX),
+        DAY.saturating_sub(Duration::days(366)),
+    ];
+    const OFFSETS: ([i16; 2], [bool; 3]) = (
+        [WEST.whole_minutes(), EAST.whole_minutes()],
+        [WEST.is_positive(), UtcOffset::UTC.is_positive(), EAST.is_positive()],
+    );
+    assert_eq!((START.date(), START.as_hms()), (DAY, (9, 30, 15)));
+    assert_eq!(PARTS, [START; 3]);
+    assert_eq!([IS_REFUSED], [true]);
+    assert_eq!(ENDS[..3], [Date::MAX, Date::MIN, Date::MIN]);
+    assert_eq!(ENDS[3].to_calendar_date(), (2023, Month::February, 28));
+    assert_eq!(OFFSETS, ([-210, 540], [false, false, true]));
+}
+
+// 2024-02-29 is a Thursday.
+#[test]
+fn occurrences_are_constants() {
+    const NEXT: [Option<Date>; 3] = [
+        DAY.checked_next_occurrence(Weekday::Thursday),
+        DAY.checked_prev_occurrence(Weekday::Friday),
+        Date::MAX.checked_next_occurrence(Weekday::Monday),
+    ];
+    const LATER: [Date; 4] = [
+        DAY.next_occurrence(Weekday::Friday),
+        DAY.prev_occurrence(Weekday::Thursday),
+        DAY.nth_next_occurrence(Weekday::Wednesday, 2),
+        DAY.nth_prev_occurrence(Weekday::Wednesday, 2),
+    ];
+    let days = |date: Date| (date - DAY).whole_days();
+    assert_eq!(NEXT.map(|date| date.map(days)), [Some(7), Some(-6), None]);
+    assert_eq!(LATER.map(days), [1, -7, 13, -8]);
+}
+
+#[test]
+fn constants_are_patterns() {
+    macro_rules! place {
+        ($value:expr, $first:path, $last:path) => {
+            match $value {
+                $first => "first",
+                $last => "last",
+                _ => "between",
+            }
+        };
+    }
+    assert_eq!(place!(Date::MIN, Date::MIN, Date::MAX), "first");
+    assert_eq!(place!(DAY, Date::MIN, Date::MAX), "between");
+    assert_eq!(place!(LAST, Time::MIDNIGHT, Time::MAX), "last");
+    assert_eq!(place!(WALL, PlainDateTime::MIN, PlainDateTime::MAX), "between");
+    assert_eq!(place!(PlainDateTime::MAX, PlainDateTime::MIN, PlainDateTime::MAX), "last");
+    assert_eq!(place!(Duration::ZERO, Duration::ZERO, Duration::MAX), "first");
+    assert_eq!(place!(UtcOffset::UTC, UtcOffset::UTC, EAST), "first");
+    assert_eq!(place!(UtcDateTime::UNIX_EPOCH, UtcDateTime::MIN, UtcDateTime::UNIX_EPOCH), "last");
+    assert_eq!(place!(Timestamp::UNIX_EPOCH, Timestamp::UNIX_EPOCH, Timestamp::MAX), "first");
+    assert!(!matches!(OffsetDateTime::UNIX_EPOCH.time(), LAST));
+}

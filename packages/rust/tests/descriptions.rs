@@ -65,6 +65,23 @@ fn values_are_written_into_a_writer() {
     assert_eq!(bytes, "002 é".as_bytes());
 }
 
+/// The source of the error is the writer's own error, of which the kind counts where two are compared.
+#[test]
+#[cfg(feature = "std")]
+fn failures_of_writers() {
+    use std::error::Error as _;
+    use std::io::{Error, ErrorKind};
+
+    let form = format_description!("[year]-[month]-[day]");
+    let written = date!(2020 - 01 - 02).format_into(&mut &mut [0; 9][..], &form);
+    let full = Error::from(ErrorKind::WriteZero);
+    assert_eq!(written, Err(Format::StdIo(full)));
+    let source = written.as_ref().unwrap_err().source().and_then(|source| source.downcast_ref());
+    assert_eq!(source.map(Error::kind), Some(ErrorKind::WriteZero));
+    assert_ne!(written, Err(Format::from(Error::from(ErrorKind::BrokenPipe))));
+    assert_eq!(Format::from(Error::other("one")), Format::from(Error::other("another")));
+}
+
 #[test]
 fn values_are_read() {
     let long = format_description!(
@@ -235,6 +252,76 @@ fn optional_and_first_items_are_read() {
     assert_eq!(time!(12:34:56).format(&items[..2]).unwrap(), "12:34:56.0");
 }
 
+/// As `time` documents it for `Parsed`: a list that fails changes nothing, and an optional item never fails.
+#[test]
+fn items_that_fail_change_no_part() {
+    let clock = BorrowedFormatItem::Compound(format_description!("[hour]:[minute]"));
+    let day = BorrowedFormatItem::Compound(format_description!("[month]-[day]-[year]"));
+    let no_clock = Err(ParseFromDescription::InvalidLiteral);
+    for (item, wanted) in [
+        (clock, no_clock),
+        (BorrowedFormatItem::Optional(&clock), Ok(&b"12-34"[..])),
+        (BorrowedFormatItem::Optional(&day), Ok(&b"12-34"[..])),
+        (BorrowedFormatItem::First(&[clock, day]), no_clock),
+        (BorrowedFormatItem::First(&[day, clock]), no_clock),
+        (BorrowedFormatItem::First(&[clock, day, BorrowedFormatItem::Compound(&[])]), Ok(b"12-34")),
+    ] {
+        let mut parsed = Parsed::new();
+        assert_eq!(parsed.parse_item(b"12-34", &item), wanted, "{item:?}");
+        assert_eq!((parsed.hour_24(), parsed.minute()), (None, None), "{item:?}");
+        assert_eq!((parsed.month(), parsed.day()), (None, None), "{item:?}");
+    }
+    let owned = parse_owned::<1>("[optional [[hour]:[minute]]]12-34").unwrap();
+    let no_parts = Err(Parse::TryFromParsed(TryFromParsed::InsufficientInformation));
+    assert_eq!(Time::parse("12-34", &owned), no_parts);
+}
+
+/// As in `time`: where a text begins with none of some items, the error is that of the first.
+#[test]
+fn the_first_of_several_items_says_why() {
+    let hour = Component::Hour(modifier::Hour::default());
+    let day = Component::Day(modifier::Day::default());
+    let year = Component::Year(modifier::Year::default());
+    let mut items = [(hour, "hour"), (day, "day"), (year, "year")];
+    for _ in 0..items.len() {
+        items.rotate_left(1);
+        let first = items.map(|(component, _)| BorrowedFormatItem::Component(component));
+        let read = Parsed::new().parse_item(b"noon", &BorrowedFormatItem::First(&first)).err();
+        assert_eq!(read, Some(ParseFromDescription::InvalidComponent(items[0].1)));
+    }
+}
+
+/// RFC 2822, section 4.3, has these names and letters, in any case. A letter is UTC, because RFC 822 stated their meaning wrongly.
+#[test]
+fn zones_of_rfc_2822() {
+    fn offset_of(zone: &str) -> Result<UtcOffset, Parse> {
+        let text = format!("21 Nov 1997 09:55:06 {zone}");
+        OffsetDateTime::parse(&text, &Rfc2822).map(|at| at.offset())
+    }
+    for (zone, offset) in [
+        ("UT", offset!(UTC)),
+        ("GMT", offset!(UTC)),
+        ("EDT", offset!(-4)),
+        ("EST", offset!(-5)),
+        ("CDT", offset!(-5)),
+        ("CST", offset!(-6)),
+        ("MDT", offset!(-6)),
+        ("MST", offset!(-7)),
+        ("PDT", offset!(-7)),
+        ("PST", offset!(-8)),
+        // Programs write it too.
+        ("UTC", offset!(UTC)),
+    ] {
+        assert_eq!(offset_of(zone), Ok(offset), "{zone}");
+        assert_eq!(offset_of(&zone.to_lowercase()), Ok(offset), "{zone}");
+    }
+    let no_zone = Err(ParseFromDescription::InvalidComponent("offset hour").into());
+    for letter in ('A'..='Z').chain('a'..='z') {
+        let wanted = if letter.eq_ignore_ascii_case(&'J') { no_zone } else { Ok(offset!(UTC)) };
+        assert_eq!(offset_of(&letter.to_string()), wanted, "{letter}");
+    }
+}
+
 #[test]
 fn well_known_formats() {
     let at = datetime!(1997-11-21 09:55:06 -06:00);
@@ -299,6 +386,45 @@ fn parts_are_set_and_read() {
         date!(2024 - 01 - 01).format(&format_description!("[hour]")),
         Err(Format::InsufficientTypeInformation)
     );
+}
+
+#[test]
+#[allow(deprecated)]
+fn older_names_of_parts_have_no_sign() {
+    let mut parsed = Parsed::new();
+    assert_eq!((parsed.offset_minute(), parsed.offset_second()), (None, None));
+    assert_eq!((parsed.set_offset_minute(30), parsed.set_offset_second(15)), (Some(()), Some(())));
+    assert_eq!((parsed.offset_minute(), parsed.offset_second()), (Some(30), Some(15)));
+    assert_eq!((parsed.set_offset_minute(128), parsed.set_offset_second(128)), (None, None));
+    assert!(Parsed::new().with_offset_minute(128).is_none());
+    assert!(Parsed::new().with_offset_second(128).is_none());
+    let same = Parsed::new().with_offset_minute(30).unwrap().with_offset_second(15).unwrap();
+    assert_eq!(UtcOffset::try_from(same.with_offset_hour(1).unwrap()), Ok(offset!(+1:30:15)));
+    let west = Parsed::new().with_offset_hour(-5).unwrap().with_offset_minute_signed(-30).unwrap();
+    assert_eq!((west.offset_minute(), west.offset_minute_signed()), (Some(30), Some(-30)));
+}
+
+// RFC 2822: a year has four digits from 1900 on, and by section 4.3 two of an older text are of 1950
+// to 2049. `time` 0.3.9 reads and rejects the same.
+#[test]
+fn years_of_rfc_2822() {
+    let year = |digits: &str| {
+        let text = format!("Sat, 07 Sep {digits} 00:00:01 GMT");
+        OffsetDateTime::parse(&text, &Rfc2822).ok().map(|at| at.year())
+    };
+    for (digits, wanted) in
+        [("02", 2002), ("49", 2049), ("50", 1950), ("99", 1999), ("1900", 1900), ("9999", 9999)]
+    {
+        assert_eq!(year(digits), Some(wanted), "{digits}");
+    }
+    for digits in
+        ["0002", "1899", "+2002", "-2002", "-02", "2", "102", "02002", "+12002", "20020000000", ""]
+    {
+        assert_eq!(year(digits), None, "{digits}");
+    }
+    let read = OffsetDateTime::parse("7 Sep 0002 00:00 GMT", &Rfc2822);
+    let wanted = Parse::ParseFromDescription(ParseFromDescription::InvalidComponent("year"));
+    assert_eq!(read, Err(wanted));
 }
 
 // As `UtcOffset::from_hms` and `time` read signs that contradict each other.

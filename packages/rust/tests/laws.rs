@@ -392,6 +392,7 @@ fn texts_heed_a_width() {
     are_aligned(date!(2024 - 02 - 29));
     are_aligned(time!(1:02));
     are_aligned(90.seconds());
+    are_aligned(90.microseconds());
     are_aligned(datetime!(2024-02-29 1:02));
     are_aligned(utc_datetime!(2024-02-29 1:02));
     are_aligned(datetime!(2024-02-29 1:02 UTC));

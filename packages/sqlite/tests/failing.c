@@ -1,5 +1,5 @@
 /* The extension where SQLite fails it: a version that is too old, a text that is not given, and memory
- * that runs out at each allocation in turn.
+ * that runs out at each allocation in turn. And how much memory a query of many rows holds.
  *
  * failing EXTENSION
  *
@@ -263,6 +263,49 @@ static const char *const OTHERS[] = {
     "SELECT year FROM muxandu_parts",
 };
 
+/* Rows of four kinds of texts, of which one is NULL and one is refused. */
+static const char LOG[] =
+    "WITH RECURSIVE rounds(n) AS (VALUES (1) UNION ALL SELECT n + 1 FROM rounds WHERE n < 1000)"
+    "INSERT INTO t SELECT column1 FROM rounds, (VALUES ('2024-02-29T12:00:00Z'), (NULL), ('2023-02-29T12:00:00Z'),"
+    "('2024-02-29T12:00:00.123456789+05:30'))";
+
+enum { SOME_ROWS = 1000, ALL_ROWS = 3000 };
+
+/* Statements that read as many rows of it. */
+static const char *const OF_ROWS[] = {
+    "SELECT * FROM t, muxandu_parts(x) WHERE muxandu_refused(x) IS NULL LIMIT ?1",
+    "SELECT *, of_text, at_offset FROM t, muxandu_parts(x, 3600) WHERE muxandu_refused(x) IS NULL LIMIT ?1",
+    "SELECT *, of_text, at_offset FROM t, muxandu_parts_or_null(x, 3600) LIMIT ?1",
+    "SELECT muxandu_to_offset_or_null(x, 3600), muxandu_sortable_or_null(x), muxandu_add_or_null(x, 1) FROM t LIMIT ?1",
+};
+
+/* The most bytes that SQLite holds while a statement reads so many rows. */
+static sqlite3_int64 most_held(sqlite3_stmt *statement, int rows) {
+    sqlite3_memory_highwater(1);
+    sqlite3_bind_int(statement, 1, rows);
+    while (sqlite3_step(statement) == SQLITE_ROW) rows--;
+    if (sqlite3_reset(statement) != SQLITE_OK || rows != 0) end("the rows are not read");
+    return sqlite3_memory_highwater(0);
+}
+
+/* Has a statement read many rows: it must hold nothing of a row once it reads the next. */
+static void hold(const char *extension, const char *text) {
+    sqlite3 *db = connected(ENCODINGS[0]);
+    sqlite3_stmt *statement;
+    char name[LONGEST], problem[LONGEST];
+    sqlite3_int64 more;
+    load(db, extension);
+    if (sqlite3_exec(db, LOG, NULL, NULL, NULL) != SQLITE_OK) end("no rows");
+    if (sqlite3_prepare_v2(db, text, -1, &statement, NULL) != SQLITE_OK) end(sqlite3_errmsg(db));
+    more = -most_held(statement, SOME_ROWS);
+    more += most_held(statement, ALL_ROWS);
+    sqlite3_finalize(statement);
+    sqlite3_close(db);
+    snprintf(name, sizeof name, "a row that is read holds no memory: %s", text);
+    snprintf(problem, sizeof problem, "%lld bytes for %d rows", (long long)more, ALL_ROWS - SOME_ROWS);
+    count(name, more < ALL_ROWS - SOME_ROWS ? NULL : problem);
+}
+
 #define COUNT(items) (sizeof(items) / sizeof *(items))
 
 int main(int words, char **word) {
@@ -272,6 +315,7 @@ int main(int words, char **word) {
     for (size_t at = 0; at < COUNT(OF_TEXTS); at++) run_out(word[1], OF_TEXTS[at]);
     for (size_t at = 0; at < COUNT(OTHERS); at++) run_out(word[1], OTHERS[at]);
     run_out_at_load(word[1]);
+    for (size_t at = 0; at < COUNT(OF_ROWS); at++) hold(word[1], OF_ROWS[at]);
     find_routines();
     entry = entry_of(word[1]);
     load_into(entry, 3030001, 1);

@@ -1,7 +1,10 @@
 """Columns of moments in pandas, beside pandas' own columns and Python's datetime."""
 
+import collections
 import datetime
 import io
+import itertools
+import operator
 import pickle
 import threading
 import unittest
@@ -25,7 +28,8 @@ from muxandu import (
     Unit,
     UtcDateTime,
 )
-from muxandu.pandas import MomentArray
+from muxandu.columns import NO_SECOND
+from muxandu.pandas import ROW, MomentArray
 
 TEXTS = ["2024-02-29T00:30:00+02:00", None, "1969-12-31T23:59:59.999999999-23:00", "0001-01-01T00:00:00Z", "2024-02-28T22:30:00Z"]
 FAR = OffsetDateTime(-999_999, 1, 1)
@@ -33,6 +37,11 @@ FAR = OffsetDateTime(-999_999, 1, 1)
 
 def moments(*texts):
     return pandas.Series(texts or TEXTS, dtype="object").astype("moment")
+
+
+def instant(item):
+    """The nanoseconds of a moment from 1970-01-01, and None for a gap."""
+    return None if item is pandas.NA else item.to_timestamp().seconds * 10**9 + item.nanosecond
 
 
 class Columns(unittest.TestCase):
@@ -161,7 +170,6 @@ class Columns(unittest.TestCase):
         hashes = [pandas.util.hash_pandas_object(column["at"], index=False).tolist() for column in (left, right)]
         self.assertEqual((hashes[0][0], hashes[0][1], hashes[0][2]), (hashes[1][3], hashes[1][0], hashes[1][2]))
         self.assertEqual(len({*hashes[0], *hashes[1]}), 5)
-        self.assertEqual(pandas.util.hash_pandas_object(left["at"][1:2], index=False).tolist(), hashes[0][1:2])
         keys = left["at"].array._values_for_factorize()[0]
         self.assertTrue(MomentArray._from_factorized(keys, left["at"].array).equals(left["at"].array))
 
@@ -201,7 +209,7 @@ class Columns(unittest.TestCase):
 
     def test_quantiles(self):
         """Beside those of datetime64, to the microsecond, which is what floats of pandas have."""
-        instants = pandas.Series(numpy.array([5, 1, 9, 3, 3, 1_000_000_007], "M8[us]").astype("M8[ns]"))
+        instants = pandas.Series(numpy.array([5, 1, 9, 3, 3, 1_000_000_007], "M8[us]").astype("M8[ns]")).dt.tz_localize("UTC")
         at = instants.astype("moment")
         for way in ("linear", "lower", "higher", "nearest", "midpoint"):
             for share in (0, 0.1, 0.3, 0.5, 0.75, 1):
@@ -213,7 +221,7 @@ class Columns(unittest.TestCase):
 
     def test_resampling_by_floor(self):
         start = numpy.datetime64("2024-03-30T00:00", "m")
-        frame = pandas.DataFrame({"at": pandas.Series(start + 7 * numpy.arange(1_000)).astype("moment"), "x": 1})
+        frame = pandas.DataFrame({"at": MomentArray._from_sequence(start + 7 * numpy.arange(1_000)), "x": 1})
         found = frame.groupby(frame["at"].moment.floor("hour"))["x"].sum()
         wanted = pandas.Series(1, pandas.DatetimeIndex(start + 7 * numpy.arange(1_000))).resample("H").sum()
         self.assertEqual(found.tolist(), wanted.tolist())
@@ -265,8 +273,8 @@ class Columns(unittest.TestCase):
         at = zoned.astype("moment")
         self.assertEqual(at.moment.offset_seconds.tolist(), [3_600, pandas.NA, 7_200])
         self.assertTrue(at.moment.to_datetime64().equals(zoned.dt.tz_convert("UTC")))
-        before = pandas.Series(numpy.array(["1969-12-31T23:59:59.999999999", "NaT"], "M8[ns]"))
-        self.assertTrue(before.equals(before.astype("moment").astype("M8[ns]")))
+        before = numpy.array(["1969-12-31T23:59:59.999999999", "NaT"], "M8[ns]")
+        self.assertTrue(pandas.Series(before).equals(pandas.Series(before, dtype="moment").astype("M8[ns]")))
         mixed = [Timestamp(5), UtcDateTime(1970, 1, 1), datetime.datetime(1970, 1, 1, tzinfo=datetime.timezone.utc)]
         self.assertEqual(pandas.Series(mixed, dtype="object").astype("moment").moment.seconds.tolist(), [5, 0, 0])
         with self.assertRaisesRegex(OverflowError, 'item 0 is outside the years of datetime64: use errors="coerce"'):
@@ -319,6 +327,255 @@ class Columns(unittest.TestCase):
         at = pandas.Series(MomentArray(rows)).moment
         self.assertEqual(at.year.tolist(), [3_000, pandas.NA, 1_000])
         self.assertEqual(at.offset_seconds.tolist(), [7_200, pandas.NA, 3_208])
+
+
+class BesidePandas(unittest.TestCase):
+    """What people write of a column, beside a column of datetime64 with the same instants."""
+
+    # The second and the fourth are one instant.
+    TEXTS = ["2024-02-28T23:45:00Z", "2024-02-29T00:30:00+02:00", "1969-12-31T23:59:59.999999999Z", "2024-02-28T22:30:00Z"]
+
+    def setUp(self):
+        self.at = moments(*self.TEXTS)
+        self.instants = pandas.Series(pandas.to_datetime(self.TEXTS, utc=True))
+
+    def both(self, call):
+        """A result of both columns, which must be one."""
+        found, wanted = call(self.at), call(self.instants)
+        self.assertEqual(list(found), list(wanted))
+        return list(found)
+
+    def test_comparisons_with_a_text(self):
+        own = str(self.at[0])
+        self.assertNotEqual(own, self.TEXTS[0])
+        for text in self.TEXTS:
+            equal = self.both(lambda column: column == text)
+            self.assertEqual(equal, [instant(at) == instant(OffsetDateTime.from_rfc3339(text)) for at in self.at])
+            for compare in (operator.ne, operator.lt, operator.le, operator.gt, operator.ge):
+                self.both(lambda column: compare(column, text))
+            self.both(lambda column: column.between(text, self.TEXTS[0]))
+            self.both(lambda column: column == [text] * 4)
+            self.both(lambda column: pandas.DataFrame({"at": column, "x": range(4)})[column == text]["x"])
+            for side in ("left", "right"):
+                self.both(lambda column: [column.sort_values().searchsorted(text, side)])
+        self.assertEqual((self.at == own).tolist(), [True, False, False, False])
+        self.assertTrue((self.at == numpy.array(self.TEXTS, object)).all())
+
+    def test_a_text_that_is_no_moment(self):
+        for text in ("", "-", "2024-02-28", "2024-02-28T23:45:00", "2024-02-28T23:45:00+0100"):
+            for call in (
+                lambda: self.at == text,
+                lambda: self.at != text,
+                lambda: self.at < text,
+                lambda: self.at.between(text, text),
+                lambda: self.at == [text] * 4,
+                lambda: self.at.isin([self.TEXTS[0], text]),
+                lambda: self.at.searchsorted(text),
+                lambda: moments(None).fillna(text),
+            ):
+                self.assertRaises(RefusedSyntax, call)
+        with self.assertRaises(RefusedMonth):
+            self.at == "2024-13-01T00:00:00Z"
+
+    def test_values_of_a_column(self):
+        for values in (self.TEXTS[:1], self.TEXTS[1:2], self.TEXTS[:3], []):
+            self.assertEqual(self.at.isin(values).tolist(), self.instants.isin(pandas.to_datetime(values, utc=True)).tolist())
+            self.assertTrue(self.at.isin(values).equals(self.at.isin(moments(*values) if values else [])))
+        one, gap = self.at[0], moments(None, self.TEXTS[0])
+        for values in ([one], [one.to_datetime()], [one.to_utc()], [one.to_timestamp()], [one, 5, "1970-01-01T00:00:00Z"]):
+            self.assertEqual(self.at.isin(values).tolist(), [True, False, False, False])
+        self.assertEqual(gap.isin([None]).tolist(), [True, False])
+        self.assertEqual(self.at.isin([5, 1.5]).tolist(), [False] * 4)
+        # 2**64 nanoseconds apart, and so one number of 64 bits.
+        apart = pandas.array([Timestamp(0), Timestamp(18_446_744_073, 709_551_616)], dtype="moment")
+        self.assertEqual((apart.isin([Timestamp(0)]).tolist(), apart.searchsorted(Timestamp(5))), ([True, False], 1))
+        self.assertEqual(moments(*self.TEXTS, "0001-01-01T00:00:00Z").isin(self.TEXTS[:1]).tolist(), [True] + [False] * 4)
+
+    def test_what_is_no_moment_in_a_list(self):
+        others = [self.at[0], 5, None, self.TEXTS[3]]
+        self.assertEqual((self.at == others).tolist(), [True, False, pandas.NA, True])
+        self.assertEqual((self.at != others).tolist(), [False, True, pandas.NA, False])
+        with self.assertRaisesRegex(TypeError, "a moment has an order with moments alone"):
+            self.at < others
+
+    def test_keys_of_an_index(self):
+        tables = [pandas.Series(range(4), pandas.Index(column)) for column in (self.at, self.instants)]
+        for text in self.TEXTS:
+            for table in tables:
+                self.assertIn(text, table.index)
+            self.assertEqual(*(numpy.atleast_1d(table.loc[text]).tolist() for table in tables))
+            self.assertEqual(*(numpy.atleast_1d(table.sort_index().loc[text:]).tolist() for table in tables))
+            self.assertEqual(*(numpy.atleast_1d(table.sort_index().loc[:text]).tolist() for table in tables))
+        self.assertEqual(tables[0][self.TEXTS[0]], 0)
+        self.assertIn(self.at[1].to_datetime(), tables[0].index)
+        later = "2030-01-01T00:00:00Z"
+        for table in tables:
+            self.assertEqual(table.sort_index().loc[later:].tolist(), [])
+            self.assertFalse(hasattr(table, "later"))
+            self.assertNotIn("later", table.index)
+            self.assertRaises(KeyError, lambda: table.loc["later"])
+        self.assertRaises(KeyError, lambda: tables[0].sort_index().loc["later":])
+        self.assertNotIn(later, tables[0].index)
+        self.assertRaises(KeyError, lambda: tables[0].loc[later])
+        self.assertIn(pandas.NA, pandas.Index(moments(None)))
+        self.assertIn("a", pandas.Index(["a"]))
+        self.assertEqual(pandas.Index(["a", self.TEXTS[0]]).get_loc(self.TEXTS[0]), 1)
+
+    def tables(self, places, is_far):
+        """A table of moments, and one of datetime64, whose year 1700 stands for the year 1 of the moments."""
+        for first, dtype in (("0001-01-01T00:00:00Z", "moment"), ("1700-01-01T00:00:00Z", "datetime64[ns, UTC]")):
+            texts = [*(self.TEXTS[place] for place in places), *([first] if is_far else [])]
+            at = texts if dtype == "moment" else pandas.to_datetime(texts, utc=True)
+            yield pandas.DataFrame({"at": pandas.Series(at, dtype=dtype), "n": range(len(texts))})
+
+    def rows(self, table):
+        """The rows of a result in numbers, with the Unix second of each instant, and of 1700 for an earlier one."""
+        for row in table.reset_index().itertuples(index=False):
+            items = [item.to_timestamp() if isinstance(item, OffsetDateTime) else item for item in row]
+            items = [item.seconds if isinstance(item, Timestamp) else getattr(item, "value", item) for item in items]
+            yield repr([item // 10**9 if abs(item) > 10**17 else max(item, -8_520_336_000.0) for item in map(float, items)])
+
+    def test_rows_that_repeat_an_instant(self):
+        """Added, joined and merged, they have the rows and the order of datetime64."""
+        calls = {
+            "+": lambda one, other: (one.set_index("at").n + other.set_index("at").n).to_frame(),
+            "-": lambda one, other: (one.set_index("at") - other.set_index("at")),
+            "ordered": lambda one, other: pandas.merge_ordered(one, other, on="at"),
+            "on indexes": lambda one, other: one.set_index("at").merge(other.set_index("at"), left_index=True, right_index=True),
+        }
+        for how in ("left", "right", "inner", "outer"):
+            calls[f"join {how}"] = lambda one, other, how=how: one.set_index("at").join(
+                other.set_index("at"), how=how, rsuffix="r"
+            )
+            calls[f"merge {how}"] = lambda one, other, how=how: pandas.merge(one, other, on="at", how=how, sort=True)
+        for first, second in (([0, 1, 2, 3], [1, 3]), ([0, 1, 3], [0, 1, 3]), ([1, 3, 0], [])):
+            for is_far in ((False, False), (True, False), (True, True)):
+                left, right = (list(self.tables(*words)) for words in zip((first, second), is_far))
+                for name, call in calls.items():
+                    found, wanted = (list(self.rows(call(*both))) for both in zip(left, right))
+                    self.assertEqual(found, wanted, (name, first, second, is_far))
+
+    def test_a_column_without_an_offset(self):
+        """Where pandas refuses an order with it, a column of moments refuses equality too."""
+        naive = self.instants.dt.tz_localize(None)
+        for other in (naive, naive.to_numpy(), naive.array, pandas.DatetimeIndex(naive)):
+            for compare in (operator.eq, operator.ne, operator.lt, operator.ge):
+                with self.assertRaisesRegex(ValueError, r"has no offset: .*\.dt\.tz_localize\(\"UTC\"\)"):
+                    compare(self.at, other)
+                with self.assertRaisesRegex(ValueError, r"has no offset: .*\.dt\.tz_localize\(\"UTC\"\)"):
+                    compare(self.at.array, naive.to_numpy())
+            with self.assertRaises(TypeError):
+                self.instants < other
+            self.assertRaisesRegex(ValueError, "has no offset", self.at.isin, other)
+        for make in (
+            lambda: naive.astype("moment"),
+            lambda: naive.to_frame("at").astype({"at": "moment"}),
+            lambda: pandas.array(naive, dtype="moment"),
+            lambda: pandas.Series(pandas.DatetimeIndex(naive), dtype="moment"),
+            lambda: self.at.moment.since(naive),
+            lambda: moments(None).fillna(naive[0]),
+        ):
+            self.assertRaisesRegex(ValueError, "has no offset: .*tz_localize", make)
+        for item in (naive[0], naive[0].to_pydatetime(), naive.to_numpy()[0]):
+            for call in (
+                lambda: self.at == item,
+                lambda: self.at != item,
+                lambda: self.at < item,
+                lambda: self.at.isin([item]),
+                lambda: pandas.Series([item], dtype="object").astype("moment"),
+            ):
+                self.assertRaisesRegex(ValueError, "has no offset: .*tz_localize", call)
+        self.assertTrue((naive.dt.tz_localize("UTC").astype("moment") == self.at).all())
+        self.assertTrue((MomentArray._from_sequence(naive.to_numpy()) == self.at).all())
+
+    def test_differences_from_a_datetime(self):
+        for item in (pandas.Timestamp(self.TEXTS[0]), pandas.Timestamp(self.TEXTS[0]).to_pydatetime()):
+            self.both(lambda column: column - item)
+            self.both(lambda column: item - column)
+        self.assertEqual((self.at[0] - self.at).tolist(), (self.instants[0] - self.instants).tolist())
+        self.assertRaisesRegex(ValueError, "has no offset", lambda: self.at - datetime.datetime(2024, 1, 1))
+
+    def test_gaps_are_filled(self):
+        """By fillna, which pandas before 2.1 asks for rows before and after too."""
+        places = [None, 0, None, None, 1, None]
+        texts = [None if place is None else self.TEXTS[place] for place in places]
+        at, instants = moments(*texts), pandas.Series(pandas.to_datetime(texts, utc=True))
+        for call in (
+            lambda column: column.fillna(self.TEXTS[2]),
+            lambda column: column.ffill(),
+            lambda column: column.bfill(),
+            lambda column: column.ffill(limit=1),
+            lambda column: column.bfill(limit=1),
+        ):
+            found, wanted = call(at), call(instants)
+            self.assertEqual(found.dtype, "moment")
+            self.assertTrue((found.isna() == wanted.isna()).all())
+            self.assertEqual(list(found.dropna()), list(wanted.dropna().astype("moment")))
+        self.assertEqual(at.array.fillna(method="pad", limit=1).isna().tolist(), [True, False, False, True, False, False])
+        self.assertRaises(ValueError, at.array.fillna)
+        self.assertRaises(ValueError, at.array.fillna, self.at[0], "pad")
+
+    def test_numbers_of_instants(self):
+        """By factorize, in the order of their first rows, with and without gaps."""
+        for texts in ([*self.TEXTS, None, *self.TEXTS[::-1]], [None, None], [], [*self.TEXTS, None, "0001-01-01T00:00:00Z"]):
+            at = pandas.array(texts, dtype="moment")
+            instants = list(map(instant, at))
+            for is_marked in (True, False):
+                firsts = [it for it in dict.fromkeys(instants) if it is not None or not is_marked]
+                codes, found = pandas.factorize(at, use_na_sentinel=is_marked)
+                self.assertEqual(list(map(instant, found)), firsts)
+                self.assertEqual(codes.tolist(), [firsts.index(it) if it in firsts else -1 for it in instants])
+            for item in found[~found.isna()]:
+                self.assertTrue(item.is_same(at[instants.index(instant(item))]))
+
+
+class Objects(unittest.TestCase):
+    """The rows of a column as objects, and objects as rows."""
+
+    ENDS = [Timestamp.MIN.to_offset(0), Timestamp.MAX.to_offset(0), Timestamp(-1, 999_999_999).to_offset(-86_399)]
+
+    def test_there_and_back(self):
+        """In blocks of each size around that of a call of the library, and of a step of an iterator."""
+        for count in (0, 1, 127, 128, 129, 8_191, 8_193):
+            items = [
+                pandas.NA if place % 50 == 7 else Timestamp(place, place).to_offset(place % 1_440 - 720) for place in range(count)
+            ]
+            items[: min(count, 3)] = self.ENDS[:count]
+            column = pandas.array(items, dtype="moment")
+            for found in (list(column), list(numpy.asarray(column)), column.astype(object).tolist(), column.tolist()):
+                self.assertEqual(len(found), count)
+                for item, wanted in zip(found, items):
+                    self.assertTrue(item is wanted or type(item) is OffsetDateTime and item.is_same(wanted), (item, wanted))
+            self.assertEqual(numpy.asarray(column).dtype, object)
+            self.assertTrue(pandas.array(numpy.array([*items, 0], object)[:-1], dtype="moment").equals(column))
+
+    def test_rows_out_of_range(self):
+        rows = numpy.zeros(300, ROW)
+        for field, value, refusal in (("nanoseconds", 10**9, RefusedNanosecond), ("seconds", 2**62, RefusedTimestamp)):
+            for place in (0, 127, 128, 299):
+                wrong = rows.copy()
+                wrong[field][place] = value
+                with self.assertRaises(refusal) as caught:
+                    list(MomentArray(wrong))
+                self.assertEqual(caught.exception.count, place)
+
+    def test_items_of_other_types(self):
+        class Own(OffsetDateTime):
+            pass
+
+        own, at = Own(2024, 1, 1, offset_seconds=60), OffsetDateTime(2024, 1, 1)
+        zoned = datetime.datetime(2024, 1, 1, tzinfo=datetime.timezone.utc)
+        found = pandas.array([at, own, UtcDateTime(2024, 1, 1), Timestamp(5), zoned, None, pandas.NaT, TEXTS[0]], dtype="moment")
+        wanted = [at, own, at, Timestamp(5), at, pandas.NA, pandas.NA, OffsetDateTime.from_rfc3339(TEXTS[0])]
+        self.assertEqual(list(found), wanted)
+        self.assertEqual(found._rows["offset_seconds"].tolist(), [0, 60, 0, 0, 0, 0, 0, 7_200])
+        for item in (5, 1.5, b"x", object(), datetime.date(2024, 1, 1), (at,)):
+            self.assertRaises(TypeError, pandas.array, [at, item], dtype="moment")
+        self.assertRaises(RefusedSyntax, pandas.array, [at, "x"], dtype="moment")
+        # Clocks at the end of the range can show an instant beyond it.
+        self.assertRaises(
+            RefusedResult, pandas.array, [at, OffsetDateTime(999_999, 12, 31, 23, offset_seconds=-7_200)], dtype="moment"
+        )
 
 
 class MethodsOfPandas2(unittest.TestCase):
@@ -384,6 +641,78 @@ class MethodsOfPandas2(unittest.TestCase):
             self.assertRaises(TypeError, MomentArray._from_scalars, [self.at[0], item], dtype=self.at.dtype)
         self.assertEqual(self.at._reduce("max", keepdims=True).tolist(), [self.at[5]])
         self.assertEqual(self.at.fillna(self.at[0]).isna().any(), False)
+
+
+class Laws(unittest.TestCase):
+    """Each column of up to three rows beside a list of its instants: two of one second, one that nanoseconds of 64 bits do not
+    reach from these, and gaps, each row at an offset of its own."""
+
+    # Whole numbers of nanoseconds, and None for a gap.
+    INSTANTS, MOST_ROWS = (None, 100_000_000, 900_000_000, 10**20 + 1), 3
+
+    def columns(self):
+        """Each list of instants, and its column."""
+        gap = (NO_SECOND, 0, 0)
+        for count in range(self.MOST_ROWS + 1):
+            for instants in itertools.product(self.INSTANTS, repeat=count):
+                rows = [gap if it is None else (*divmod(it, 10**9), 60 * at) for at, it in enumerate(instants)]
+                yield instants, MomentArray(numpy.array(rows, ROW))
+
+    def test_ends(self):
+        for instants, column in self.columns():
+            known = [it for it in instants if it is not None]
+            for name, end in (("min", min), ("max", max)):
+                found, wanted = getattr(pandas.Series(column), name), end(known, default=None)
+                self.assertEqual(instant(found()), wanted, (name, instants))
+                self.assertEqual(instant(found(skipna=False)), None if None in instants else wanted, (name, instants))
+
+    def test_ends_up_to_each_row(self):
+        for instants, column in self.columns():
+            for name, end in (("cummin", min), ("cummax", max)):
+                before = [instants[: place + 1] for place in range(len(instants))]
+                ends = [end((it for it in those if it is not None), default=None) for those in before]
+                skipped = [None if those[-1] is None else it for those, it in zip(before, ends)]
+                stopped = [None if None in those else it for those, it in zip(before, ends)]
+                for skipna, wanted in ((True, skipped), (False, stopped)):
+                    found = list(map(instant, column._accumulate(name, skipna=skipna)))
+                    self.assertEqual(found, wanted, (name, skipna, instants))
+
+    def test_order_and_ranks(self):
+        for instants, column in self.columns():
+            gaps, known = ([at for at, it in enumerate(instants) if (it is None) == is_gap] for is_gap in (True, False))
+            found = pandas.Series(column).sort_values(kind="stable").index.tolist()
+            self.assertEqual(found, sorted(known, key=lambda at: instants[at]) + gaps, instants)
+            ranks = column._rank(method="min")[known].tolist()
+            self.assertEqual(ranks, [1 + sum(instants[it] < instants[at] for it in known) for at in known], instants)
+
+    def test_instants_are_counted(self):
+        for instants, column in self.columns():
+            self.assertEqual(tuple(map(instant, column.unique())), tuple(dict.fromkeys(instants)))
+            self.assertEqual(column.duplicated().tolist(), [it in instants[:at] for at, it in enumerate(instants)], instants)
+            for dropna in (True, False):
+                found = column.value_counts(dropna)
+                wanted = collections.Counter(it for it in instants if it is not None or not dropna)
+                self.assertEqual(dict(zip(map(instant, found.index), found)), wanted, instants)
+                self.assertEqual(found.tolist(), sorted(wanted.values(), reverse=True), instants)
+
+    def test_each_block_of_131_073_rows(self):
+        """An end is found, and an error names its row, in each block of rows that a call reads."""
+        epoch, plain = OffsetDateTime(1970, 1, 1), (0, 5, 0)
+        rows = numpy.full(131_073, numpy.array(plain, ROW))
+        column = MomentArray(rows)
+        for place in (0, 16_383, 16_384, 131_071, 131_072):
+            for name, row in (("min", (0, 4, 60)), ("max", (0, 6, 60)), ("min", (-1, 9, 60)), ("max", (1, 0, 60))):
+                rows[place] = row
+                self.assertTrue(column._reduce(name).is_same(Timestamp(*row[:2]).to_offset(60)), (name, place, row))
+            rows[place] = (0, 10**9, 0)
+            for call in (lambda: column < epoch, lambda: column == column, lambda: column - epoch, lambda: column + Duration(1)):
+                with self.assertRaises(RefusedNanosecond) as caught:
+                    call()
+                self.assertEqual(caught.exception.count, place)
+            rows[place] = (10**11, 0, 0)
+            with self.assertRaisesRegex(OverflowError, f"item {place} is more than 292 years"):
+                column - epoch
+            rows[place] = plain
 
 
 if __name__ == "__main__":

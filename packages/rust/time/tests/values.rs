@@ -229,6 +229,34 @@ fn fields_have_other_forms() {
     assert!(json.contains(r#""changed":null"#) && json.contains(r#""paid":null"#), "{json}");
 }
 
+#[derive(Debug, Deserialize, PartialEq, Serialize)]
+struct Mail {
+    #[serde(with = "time::serde::rfc2822")]
+    sent: OffsetDateTime,
+    #[serde(with = "time::serde::rfc2822::option", default)]
+    read: Option<UtcDateTime>,
+}
+
+// The text is the example of RFC 2822, section A.1.1.
+#[test]
+fn fields_have_the_form_of_mail() {
+    use time::serde::rfc2822;
+
+    let text = r#"{"sent":"Fri, 21 Nov 1997 09:55:06 -0600","read":null}"#;
+    let mut mail = Mail { sent: datetime!(1997-11-21 9:55:06 -6), read: None };
+    assert_eq!(serde_json::to_string(&mail).unwrap(), text);
+    assert_eq!(serde_json::from_str::<Mail>(text).unwrap(), mail);
+    mail.read = Some(utc_datetime!(1997-11-21 15:55:06));
+    let json = serde_json::to_string(&mail).unwrap();
+    assert!(json.contains(r#""read":"Fri, 21 Nov 1997 15:55:06 +0000""#), "{json}");
+    assert_eq!(serde_json::from_str::<Mail>(&json).unwrap(), mail);
+    is_refused::<Mail>(&text.replace("Nov", "Non"), "the component month cannot be read");
+    let none = timestamp!(-2_208_988_801);
+    assert!(rfc2822::serialize(&none, serde_json::value::Serializer).is_err());
+    let read: Result<Timestamp, _> = rfc2822::deserialize(serde_json::Value::from(5));
+    assert!(read.unwrap_err().to_string().contains("expected a text of RFC 2822"));
+}
+
 #[test]
 fn fields_out_of_range_are_refused() {
     use time::serde::{rfc3339, text, timestamp};

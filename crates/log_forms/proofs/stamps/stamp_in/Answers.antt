@@ -1,4 +1,4 @@
-use Rattle.std.proofs.Common.{rules, ◌≡◌, ◌-◌, ◌∙◌, drop, length, Some}
+use Rattle.std.proofs.Common.{rules, ◌≡◌, ◌-◌, ◌∙◌, length, Some}
 use Rattle.log_forms.specs.Splits.{counted_reading}
 use Rattle.log_forms.specs.Stamps.{ended_stamp}
 use Rattle.log_forms.proofs.SplitLemmas.{counted_stamp}
@@ -11,7 +11,7 @@ returns-in-Some-clause-stamp c =
     let parts = c.read_counted.new.parts in
     let read : Some (parts, rest) ≡ counted_reading c.args.form.now text = search rules in
     let stamp : c.ended_stamp.result ≡ ended_stamp c.args.assumed.now parts (c.args.count - length text) (length text - length rest)
-    (drop (length text - length rest) text) =
+    text =
     search rules
     in
     stamp ∙ counted_stamp c.args.form.now c.args.assumed.now c.args.count text rest parts read

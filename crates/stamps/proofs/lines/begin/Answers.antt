@@ -15,7 +15,7 @@ returns-in-Some-text_in-clause-begins g c =
     let stamp = c.in-Ok.stamp in
     let text = c.in-Some-text_in.text in
     let read = decision_of-read task state after line (Ok stamp) (sym c.in-Ok.is ∙ c.read_stamp-stamp.ensures.stamp) refl in
-    let keep = c.in-Some.ensures state.last after text (sym c.text_in.ensures.text ∙ c.in-Some-text_in.is) in
+    let keep = c.in-Some.ensures state after text (sym c.text_in.ensures.text ∙ c.in-Some-text_in.is) in
     let kept = rw c.as_bytes.ensures.value at c.keep_text.ensures.kept in
     begins_kept c.keep_text.result (decision_of task state line) _ _ _ c.args.pending.now _ line text stamp.start stamp.length (sym keep ∙ read) kept
 
@@ -28,7 +28,7 @@ keep_text-requires g c =
     let stamp = c.in-Ok.stamp in
     let text = c.in-Some-text_in.text in
     let read = decision_of-read task state after line (Ok stamp) (sym c.in-Ok.is ∙ c.read_stamp-stamp.ensures.stamp) refl in
-    let keep = c.in-Some.ensures state.last after text (sym c.text_in.ensures.text ∙ c.in-Some-text_in.is) in
+    let keep = c.in-Some.ensures state after text (sym c.text_in.ensures.text ∙ c.in-Some-text_in.is) in
     kept_within task state line text stamp.start stamp.length (sym keep ∙ read)
 
 pub returns-in-Keep-clause-begins : goal.returns-in-Keep-clause-begins

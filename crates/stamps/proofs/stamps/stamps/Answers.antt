@@ -1,20 +1,27 @@
 use Rattle.std.proofs.Common.{◌≡◌, Result, Ok, Err, arith, []}
+use Rattle.std.specs.Prelude.{IfOk, IsErrAnd}
 use Rattle.line_devices.specs.FaultLemmas.{OnOk-fault}
 use Rattle.stamps.proofs.TurnLemmas.{GoesOn-first, reads_end, Turns-end, Turns-longer, Stops-by}
+use Rattle.line_devices.specs.declared.stamp_tallies.StampTally.{StampTally}
 use Rattle.stamps.specs.declared.finding.Finding.{Finding}
 use Rattle.stamps.specs.declared.stamps.StampFault.{StampFault}
 use Rattle.stamps.specs.declared.stamps.StampFault.TheVariants.{Read, Write, Found}
 use Rattle.stamps.proofs.stamps.stamps.Goals as goal
 
-no_fault : (fault : StampFault) → ◌≡◌ {A = Result Unit StampFault} (Ok tt) (Err fault) → ⊥
-no_fault fault is = cc
+no_fault : (tally : StampTally) (fault : StampFault) → ◌≡◌ {A = Result StampTally StampFault} (Ok tally) (Err fault) → ⊥
+no_fault tally fault is = cc
 
 -- a failed read is no other fault
-no_write : ◌≡◌ {A = Result Unit StampFault} (Err Read) (Err Write) → ⊥
+no_write : ◌≡◌ {A = Result StampTally StampFault} (Err Read) (Err Write) → ⊥
 no_write is = cc
 
-no_found : (found : Finding) → ◌≡◌ {A = Result Unit StampFault} (Err Read) (Err (Found found)) → ⊥
+no_found : (found : Finding) → ◌≡◌ {A = Result StampTally StampFault} (Err Read) (Err (Found found)) → ⊥
 no_found found is = cc
+
+-- a condition on the tally alone is true of a fault
+IfOk-fault : (P : StampTally → Type 0) (Q : StampFault → Type 0) (result : Result StampTally StampFault) → IsErrAnd result Q → IfOk result P
+IfOk-fault P Q (Ok tally) made = absurd made
+IfOk-fault P Q (Err fault) made = tt
 
 pub reads-init : goal.reads-init
 reads-init g c = (
@@ -49,6 +56,7 @@ returns-in_err-count g c =
       end = OnOk-fault _ _ c.from_residual.result made;
       written = OnOk-fault _ _ c.from_residual.result made;
       well = OnOk-fault _ _ c.from_residual.result made;
+      tally = IfOk-fault _ _ c.from_residual.result made;
       no_read_failed = OnOk-fault _ _ c.from_residual.result made;
       no_write_failed = OnOk-fault _ _ c.from_residual.result made;
       read = λ is. (by Read is).read_failed;
@@ -70,16 +78,17 @@ returns-then-count-eq0 g c =
       end = all.none_left;
       written = all.written;
       well = all.well;
+      tally = all.tally;
       no_read_failed = all.no_read_failed;
       no_write_failed = all.no_write_failed;
-      read = λ is. absurd (no_fault _ is);
-      as_read = λ is. absurd (no_fault _ is);
-      only_a_read = λ is. absurd (no_fault _ is);
-      write = λ is. absurd (no_fault _ is);
-      beginning = λ is. absurd (no_fault _ is);
-      only_a_write = λ is. absurd (no_fault _ is);
-      found = λ found is. absurd (no_fault _ is);
-      no_call_failed = λ found is. absurd (no_fault _ is);
+      read = λ is. absurd (no_fault _ _ is);
+      as_read = λ is. absurd (no_fault _ _ is);
+      only_a_read = λ is. absurd (no_fault _ _ is);
+      write = λ is. absurd (no_fault _ _ is);
+      beginning = λ is. absurd (no_fault _ _ is);
+      only_a_write = λ is. absurd (no_fault _ _ is);
+      found = λ found is. absurd (no_fault _ _ is);
+      no_call_failed = λ found is. absurd (no_fault _ _ is);
     }
 
 pub returns : goal.returns
@@ -90,6 +99,7 @@ returns g c =
       end = tt;
       written = tt;
       well = tt;
+      tally = tt;
       no_read_failed = tt;
       no_write_failed = tt;
       read = λ _. stops.read_failed;

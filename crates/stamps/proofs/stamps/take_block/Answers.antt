@@ -18,7 +18,7 @@ pub returns-then-count-eq0 : goal.returns-then-count-eq0
 returns-then-count-eq0 g c = λ first taken h.
     let none = rw c.if-count-eq0.true at c.in-Ok.ensures.consumed.0 in
     let end = c.in-Ok.ensures.consumed.1 c.if-count-eq0.true (rw c.read_some.auto.buffer c.requires.block) in
-    input_ends c.args.task.now first _ _ _ _ taken h none end (c.in_ok-finish.ensures.completes refl _ taken h.stands) c.in-Ok.ensures.mark
+    input_ends c.args.task.now first _ _ _ _ _ taken h none end (c.in_ok-finish.ensures.completes refl _ taken h.stands) c.in-Ok.ensures.mark
     c.in_ok-finish.ensures.mark
 
 pub returns-in_err-feed : goal.returns-in_err-feed

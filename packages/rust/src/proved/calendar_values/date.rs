@@ -31,7 +31,7 @@ mod texts;
 /// # Ok(())
 /// # }
 /// ```
-#[derive(Clone, Copy)]
+#[derive(Clone, Copy, PartialEq)]
 pub struct Date {
     niche: crate::proved::memory::Niche,
     year: i32,

@@ -27,7 +27,7 @@ mod totals;
 /// # Ok(())
 /// # }
 /// ```
-#[derive(Clone, Copy)]
+#[derive(Clone, Copy, PartialEq)]
 pub struct SignedDuration {
     niche: crate::proved::memory::Niche,
     seconds: i64,

@@ -254,7 +254,7 @@ impl Text {
     /// [docs/proofs/STATEMENT.md](crate::proved#contracts) explains the words.
     #[inline]
     pub fn as_str(&self) -> &str {
-        str::from_utf8(self.as_bytes()).unwrap()
+        core::str::from_utf8(self.as_bytes()).unwrap()
     }
 }
 

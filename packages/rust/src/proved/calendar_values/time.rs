@@ -24,7 +24,7 @@ mod texts;
 /// # Ok(())
 /// # }
 /// ```
-#[derive(Clone, Copy)]
+#[derive(Clone, Copy, PartialEq)]
 pub struct Time {
     niche: crate::proved::memory::Niche,
     hour: u8,

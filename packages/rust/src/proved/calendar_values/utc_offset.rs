@@ -18,7 +18,7 @@ mod texts;
 /// # Ok(())
 /// # }
 /// ```
-#[derive(Clone, Copy)]
+#[derive(Clone, Copy, PartialEq)]
 pub struct UtcOffset {
     niche: crate::proved::memory::Niche,
     hours: i8,

@@ -24,7 +24,7 @@ pub use comparisons::packed_number;
 /// # Ok(())
 /// # }
 /// ```
-#[derive(Clone, Copy)]
+#[derive(Clone, Copy, PartialEq)]
 pub struct PlainDateTime {
     date: Date,
     time: Time,

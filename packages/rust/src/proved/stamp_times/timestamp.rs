@@ -32,7 +32,7 @@ const MAX_NANOSECOND: u32 = 999_999_999;
 /// # Ok(())
 /// # }
 /// ```
-#[derive(Clone, Copy)]
+#[derive(Clone, Copy, PartialEq)]
 pub struct Timestamp {
     niche: crate::proved::memory::Niche,
     seconds: i64,

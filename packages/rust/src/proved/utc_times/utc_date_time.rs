@@ -26,7 +26,7 @@ mod unix_time;
 /// # Ok(())
 /// # }
 /// ```
-#[derive(Clone, Copy)]
+#[derive(Clone, Copy, PartialEq)]
 pub struct UtcDateTime {
     date: Date,
     time: Time,

@@ -11,13 +11,6 @@ use std::hash::{Hash, Hasher};
 /// ```
 ///
 /// [docs/proofs/STATEMENT.md](crate::proved#contracts) explains the words.
-impl PartialEq for Date {
-    #[inline]
-    fn eq(&self, other: &Date) -> bool {
-        self.year == other.year && self.ordinal == other.ordinal
-    }
-}
-
 impl Eq for Date {}
 
 /// # Contract

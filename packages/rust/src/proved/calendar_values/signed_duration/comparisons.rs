@@ -11,13 +11,6 @@ use std::hash::{Hash, Hasher};
 /// ```
 ///
 /// [docs/proofs/STATEMENT.md](crate::proved#contracts) explains the words.
-impl PartialEq for SignedDuration {
-    #[inline]
-    fn eq(&self, other: &SignedDuration) -> bool {
-        self.seconds == other.seconds && self.nanoseconds == other.nanoseconds
-    }
-}
-
 impl Eq for SignedDuration {}
 
 /// # Contract

@@ -11,13 +11,6 @@ use std::hash::{Hash, Hasher};
 /// ```
 ///
 /// [docs/proofs/STATEMENT.md](crate::proved#contracts) explains the words.
-impl PartialEq for Time {
-    #[inline]
-    fn eq(&self, other: &Time) -> bool {
-        self.nanosecond_of_day() == other.nanosecond_of_day()
-    }
-}
-
 impl Eq for Time {}
 
 /// # Contract

@@ -9,11 +9,4 @@ use crate::proved::calendar_values::UtcOffset;
 /// ```
 ///
 /// [docs/proofs/STATEMENT.md](crate::proved#contracts) explains the words.
-impl PartialEq for UtcOffset {
-    #[inline]
-    fn eq(&self, other: &UtcOffset) -> bool {
-        self.whole_seconds() == other.whole_seconds()
-    }
-}
-
 impl Eq for UtcOffset {}

@@ -49,13 +49,6 @@ pub const fn packed_number(year: i32, ordinal: u16, time: Time) -> i128 {
 /// ```
 ///
 /// [docs/proofs/STATEMENT.md](crate::proved#contracts) explains the words.
-impl PartialEq for PlainDateTime {
-    #[inline]
-    fn eq(&self, other: &PlainDateTime) -> bool {
-        self.packed_number().eq(&other.packed_number())
-    }
-}
-
 impl Eq for PlainDateTime {}
 
 /// # Contract

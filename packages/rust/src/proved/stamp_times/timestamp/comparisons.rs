@@ -11,13 +11,6 @@ use std::hash::{Hash, Hasher};
 /// ```
 ///
 /// [docs/proofs/STATEMENT.md](crate::proved#contracts) explains the words.
-impl PartialEq for Timestamp {
-    #[inline]
-    fn eq(&self, other: &Timestamp) -> bool {
-        self.seconds == other.seconds && self.nanosecond == other.nanosecond
-    }
-}
-
 impl Eq for Timestamp {}
 
 /// # Contract

@@ -11,13 +11,6 @@ use std::hash::{Hash, Hasher};
 /// ```
 ///
 /// [docs/proofs/STATEMENT.md](crate::proved#contracts) explains the words.
-impl PartialEq for UtcDateTime {
-    #[inline]
-    fn eq(&self, other: &UtcDateTime) -> bool {
-        self.as_plain() == other.as_plain()
-    }
-}
-
 impl Eq for UtcDateTime {}
 
 /// # Contract

@@ -1,5 +1,0 @@
-//! Tests of `lanes`.
-#![tactic(auto)]
-
-#[cfg(test)]
-mod tests;

@@ -1,5 +1,0 @@
-//! Tests of `stamp_times`.
-#![tactic(auto, using(calendar_values::specs::Constants::constants))]
-
-#[cfg(test)]
-mod tests;

@@ -1,5 +1,0 @@
-use Rattle.std.proofs.Common.{length}
-use Rattle.stamps.proofs.files.+behind_options.Given as goal
-
-abbrev pub decreases-behind_options : goal.decreases-behind_options
-decreases-behind_options l = length l.words.now
