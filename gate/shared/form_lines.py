@@ -598,6 +598,14 @@ def form_lines(rng, name, count):
     return lines
 
 
+def ended_lines(rng, name):
+    """Lines of a form with each end three times. Those of `local` have each word for a time zone too."""
+    ends = [end for end in ENDS for _ in range(3)]
+    if name == "local":
+        ends += [f" {word}".encode() for word in ZONES]
+    return [stamp_text(rng, name, rng.randrange(1_600_000_000, 1_750_000_000)) + end for end in ends]
+
+
 # Texts before a stamp, some with what a place looks for.
 WORDS = [b"host", b"[worker-3]", b"time=", b'a="b\\"c"', b"INFO", b"-", b"10.0.0.1", b"ts", b"{}"]
 MEMBERS = [

@@ -10,7 +10,7 @@ from .gate import (
     ARCHIVE, ARCHIVE_CHOICE, BESIDE, NO_UNPROVED_ARCHIVE, PROVED_ALWAYS, SHARED_FOLDER, UNPROVED, UNPROVED_ALWAYS,
     UNPROVED_ARCHIVE, write_text,
 )  # fmt: skip
-from .tasks import Counts, Task, processors
+from .tasks import Counts, Task, known_before_the_end, processors
 
 PROOFS = "rt ci"
 
@@ -91,7 +91,8 @@ class Gate:
 
     def begin(self, step, is_shared, nice=0):
         log = self.path(f"{step.split()[0]}.log")
-        self.tasks[step] = Task(step, self.command(step), log, nice, **self.variables(is_shared))
+        with known_before_the_end():
+            self.tasks[step] = Task(step, self.command(step), log, nice, **self.variables(is_shared))
 
     def stop(self):
         """Ends all that runs, and waits until it has."""
@@ -199,7 +200,8 @@ class Gate:
         made = self.others.get("library")
         if made is None and not self.has(NO_UNPROVED_ARCHIVE) and self.needs_library() and self.is_ready("lint"):
             words = ["make/unproved_archive", self.path(UNPROVED_ARCHIVE)]
-            self.others["library"] = Task(words[0], words, self.path("made"))
+            with known_before_the_end():
+                self.others["library"] = Task(words[0], words, self.path("made"))
         elif made and made.has_ended() and not self.has(UNPROVED_ARCHIVE) and not self.has(NO_UNPROVED_ARCHIVE):
             self.note_no_library(f"no library is made with nothing proved: {made.last_line()}")
 
@@ -241,7 +243,8 @@ class Gate:
         if "proved_copy" in steps:
             subprocess.run(["gate/proved_copy", "make"], env={**os.environ, **self.variables(True)}, check=False)
         if self.words.install:
-            self.others["packages"] = Task("gate/packages", ["gate/packages", "install"], self.path("packages.log"))
+            with known_before_the_end():
+                self.others["packages"] = Task("gate/packages", ["gate/packages", "install"], self.path("packages.log"))
         if PROOFS in steps:
             self.run_in_front(PROOFS, True)
             self.keep_programs()

@@ -1,5 +1,6 @@
 """Programs that ./test runs side by side, and the count of their cases."""
 
+import contextlib
 import functools
 import os
 import re
@@ -22,11 +23,26 @@ def processors():
     return len(os.sched_getaffinity(0))
 
 
+# The signals that end the gate.
+ENDING = (signal.SIGINT, signal.SIGTERM)
+
+
+@contextlib.contextmanager
+def known_before_the_end():
+    """Holds the signals that end the gate until the program that begins is noted, so that it is ended too."""
+    signal.pthread_sigmask(signal.SIG_BLOCK, ENDING)
+    try:
+        yield
+    finally:
+        signal.pthread_sigmask(signal.SIG_UNBLOCK, ENDING)
+
+
 def step_aside(nice):
     """Has this process and all that it starts in a group, which can be ended as one, and take less of the processors. A session of its
     own would have as much of them as each other session, whatever it is nice by."""
     os.setpgid(0, 0)
     os.nice(nice)
+    signal.pthread_sigmask(signal.SIG_UNBLOCK, ENDING)
 
 
 class Task:
