@@ -4,7 +4,6 @@ use Rattle.std.proofs.Common.{Option, Some, None, Result, Ok, Err, inl, inr}
 use Rattle.std.proofs.lemmas.Bool.{cases_Bool}
 use Rattle.std.proofs.lemmas.Bool.Decides.{nat_tests}
 use Rattle.std.specs.Prelude.{◌||◌, nat_le, if◌then◌else◌}
-use Rattle.log_forms.specs.ChoiceLaws.{FindsBoth, FindsTheMost, NoneFindsBoth}
 use Rattle.log_forms.specs.Choices.{best_of, better_of, choice_of, count_in, count_read, found_by, if_both, is_sure, most, one_more}
 use Rattle.log_forms.specs.Choices.{reader_form, reader_key, reader_place, some_year, steady_by}
 use Rattle.log_forms.specs.Forms.{form_named}
@@ -99,14 +98,15 @@ count_read-most reader lines =
     (found_by reader lines) (length lines) (found_by-most reader lines)
 
 -- the choice by both of the first two lines, and by all lines
-pub both-chosen : (first second : List ℕ) (lines : List (List ℕ)) (reader : ℕ) → FindsBoth reader (first ∷ second ∷ [])
+pub both-chosen : (first second : List ℕ) (lines : List (List ℕ)) (reader : ℕ) → reader < READERS
+    → count_read reader (first ∷ second ∷ []) ≡ 2 → ((other : ℕ) → other < reader → count_read other (first ∷ second ∷ []) < 2)
     → choice_of (first ∷ second ∷ lines) ≡ Some reader
-both-chosen first second lines reader finds =
+both-chosen first second lines reader inside both before =
     let two = first ∷ second ∷ [] in
-    let best = best-is READERS reader two finds.inside (omega (arith, finds.both))
-      (λ other here. let most = count_read-most other two in omega (arith, finds.both, most))
-      (λ other here. let less = finds.first other here in omega (arith, finds.both, less)) in
-    rw best (rw finds.both refl)
+    let best = best-is READERS reader two inside (omega (arith, both))
+      (λ other here. let most = count_read-most other two in omega (arith, both, most))
+      (λ other here. let less = before other here in omega (arith, both, less)) in
+    rw best (rw both refl)
 
 if_both-not : (best : ℕ × ℕ) (others : Option ℕ) → best.0 < 2 → if_both best others ≡ others
 if_both-not best others less = grind (arith, nat_tests, less)
@@ -117,25 +117,22 @@ most-found count reader some = grind (arith, nat_tests, some)
 most-none : (best : ℕ × ℕ) → best.0 < 1 → most best ≡ None
 most-none best less = grind (arith, nat_tests, less)
 
-most-chosen : (reader : ℕ) (lines : List (List ℕ)) → FindsTheMost reader lines → most (best_of READERS lines) ≡ Some reader
-most-chosen reader lines finds =
-    rw (best-is READERS reader lines finds.inside finds.some finds.most finds.first)
-    (most-found (count_read reader lines) reader finds.some)
+pub most-chosen : (lines : List (List ℕ)) (reader : ℕ) → reader < READERS → 0 < count_read reader lines
+    → ((other : ℕ) → other < READERS → count_read other lines ≤ count_read reader lines)
+    → ((other : ℕ) → other < reader → count_read other lines < count_read reader lines) → most (best_of READERS lines) ≡ Some reader
+most-chosen lines reader inside some most first =
+    rw (best-is READERS reader lines inside some most first) (most-found (count_read reader lines) reader some)
 
-pub chosen-by_most : (first second : List ℕ) (lines : List (List ℕ)) (reader : ℕ) → NoneFindsBoth (first ∷ second ∷ [])
-    → FindsTheMost reader (first ∷ second ∷ lines) → choice_of (first ∷ second ∷ lines) ≡ Some reader
-chosen-by_most first second lines reader none finds =
+pub not-by_both : (first second : List ℕ) (lines : List (List ℕ)) (reader : Option ℕ)
+    → ((other : ℕ) → other < READERS → count_read other (first ∷ second ∷ []) < 2)
+    → most (best_of READERS (first ∷ second ∷ lines)) ≡ reader → choice_of (first ∷ second ∷ lines) ≡ reader
+not-by_both first second lines reader none rest =
     let two = first ∷ second ∷ [] in
     rw (if_both-not (best_of READERS two) (most (best_of READERS (first ∷ second ∷ lines)))
-    (best-less READERS 2 two (omega (arith)) none)) (most-chosen reader (first ∷ second ∷ lines) finds)
+    (best-less READERS 2 two (omega (arith)) none)) rest
 
-pub chosen-by_one : (line : List ℕ) (reader : ℕ) → FindsTheMost reader (line ∷ []) → choice_of (line ∷ []) ≡ Some reader
-chosen-by_one line reader finds = most-chosen reader (line ∷ []) finds
-
-pub none-chosen : (first second : List ℕ) (lines : List (List ℕ)) → NoneFindsBoth (first ∷ second ∷ [])
-    → ((other : ℕ) → other < READERS → count_read other (first ∷ second ∷ lines) ≡ 0) → choice_of (first ∷ second ∷ lines) ≡ None
-none-chosen first second lines none nothing =
-    let two = first ∷ second ∷ [] in
-    let all = first ∷ second ∷ lines in
-    rw (if_both-not (best_of READERS two) (most (best_of READERS all)) (best-less READERS 2 two (omega (arith)) none))
-    (most-none (best_of READERS all) (best-less READERS 1 all (omega (arith)) (λ other here. let zero = nothing other here in omega (arith, zero))))
+pub none-most : (lines : List (List ℕ)) → ((other : ℕ) → other < READERS → count_read other lines ≡ 0)
+    → most (best_of READERS lines) ≡ None
+none-most lines nothing =
+    most-none (best_of READERS lines)
+    (best-less READERS 1 lines (omega (arith)) (λ other here. let zero = nothing other here in omega (arith, zero)))

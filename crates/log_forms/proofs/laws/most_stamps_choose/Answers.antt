@@ -1,14 +1,19 @@
-use Rattle.log_forms.proofs.ChoiceLawLemmas.{both-chosen, chosen-by_most, chosen-by_one, none-chosen}
+use Rattle.std.proofs.Common.{[], ◌∷◌, Some, None}
+use Rattle.log_forms.proofs.ChoiceLawLemmas.{both-chosen, most-chosen, none-most, not-by_both}
 use Rattle.log_forms.proofs.laws.most_stamps_choose.Goals as goal
 
 pub returns-clause-both : goal.returns-clause-both
-returns-clause-both c = both-chosen
+returns-clause-both c = λ first second lines reader finds.
+    both-chosen first second lines reader finds.inside finds.both finds.first
 
 pub returns-clause-most : goal.returns-clause-most
-returns-clause-most c = chosen-by_most
+returns-clause-most c = λ first second lines reader none finds.
+    not-by_both first second lines (Some reader) none
+    (most-chosen (first ∷ second ∷ lines) reader finds.inside finds.some finds.most finds.first)
 
 pub returns-clause-one : goal.returns-clause-one
-returns-clause-one c = chosen-by_one
+returns-clause-one c = λ line reader finds. most-chosen (line ∷ []) reader finds.inside finds.some finds.most finds.first
 
 pub returns-clause-nothing : goal.returns-clause-nothing
-returns-clause-nothing c = none-chosen
+returns-clause-nothing c = λ first second lines none nothing.
+    not-by_both first second lines None none (none-most (first ∷ second ∷ lines) nothing)
