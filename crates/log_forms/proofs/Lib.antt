@@ -1,4 +1,5 @@
 mod ApartLemmas
+mod ChoiceLawLemmas
 mod ChoiceLemmas
 mod FrontLemmas
 mod LeftOutLemmas

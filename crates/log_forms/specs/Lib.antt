@@ -6,6 +6,7 @@ pub mod Forms
 pub mod Instants
 pub mod Stamps
 pub mod Choices
+pub mod ChoiceLaws
 pub mod Laws
 pub mod Lacking
 pub mod Years

@@ -1,4 +1,5 @@
 //! Laws of forms. Each function here proves a law, and does nothing when it is called.
+ghost use Rattle.log_forms.specs.ChoiceLaws.{BothFirstLinesChoose, MostLinesChoose, NothingChooses, OneLineChooses};
 ghost use Rattle.log_forms.specs.Laws.{FirstYearsStay, FormTextsReadBack, StampsEndApart, YearsAreNearest};
 ghost use Rattle.log_forms.specs.Laws.{YearsAreNeverLeftOut, ZonesAreNeverLeftOut};
 ghost use Rattle.log_forms.specs.Samples.{NamesFindTheirForms, SamplesAreRead};
@@ -43,4 +44,14 @@ pub fn samples_are_read()
 /// The name of each form finds that form.
 pub fn names_find_their_forms()
     ensures { NamesFindTheirForms }
+{}
+
+/// The reader that is chosen is the first that finds a stamp in both of the first two lines. If
+/// there is none, it is the first of those that find stamps in the most lines. If no reader finds a
+/// stamp, none is chosen.
+pub fn most_stamps_choose()
+    ensures both { BothFirstLinesChoose }
+    ensures most { MostLinesChoose }
+    ensures one { OneLineChooses }
+    ensures nothing { NothingChooses }
 {}
