@@ -1,11 +1,15 @@
 -- The rows of lines, one after another.
-use Rattle.std.proofs.Common.{◌≡◌, ℕ, Bool, List, [], ◌∷◌, ◌++◌, take, Option, Result, Ok, Err, ℤ, refl, sym, ap, ◌∙◌, append_assoc, append-nil}
+use Rattle.std.proofs.Common.{◌≡◌, ℕ, Bool, true, false, List, [], ◌∷◌, ◌++◌, take, Option, Result, Ok, Err, ℤ, refl, sym, ap, ◌∙◌, append_assoc, append-nil}
+use Rattle.std.specs.Option.{option_or}
+use Rattle.std.specs.Prelude.{is_some}
 use Rattle.line_devices.specs.LineLemmas.{ended_from-append, ended_from-line_feed, lines_of-parts, whole_lines_of-parts}
 use Rattle.line_devices.specs.LineParts.{ended_from, rest_from}
 use Rattle.line_devices.specs.Lines.{lines_of, unless_empty}
+use Rattle.line_devices.specs.StampTallies.{kind_of, tally_after}
+use Rattle.line_devices.specs.declared.stamp_tallies.LineKind.{LineKind}
 use Rattle.line_counts.specs.Counting.{Counting}
-use Rattle.line_counts.specs.Counts.{Counted, count_end, count_input, count_line}
-use Rattle.line_counts.specs.Counts.{count_lines, count_open, count_own, outcome, first_tally, then_on}
+use Rattle.line_counts.specs.Counts.{Counted, bucket_at, count_by, count_end, count_input, count_line, count_lines, count_open, count_own}
+use Rattle.line_counts.specs.Counts.{fault_of, first_tally, instant_at, next_line, outcome, then_on}
 use Rattle.line_counts.specs.declared.tallies.CountFault.{CountFault}
 use Rattle.line_counts.specs.declared.tallies.Tally.{Tally}
 
@@ -152,8 +156,23 @@ open_known c s taken text tally e =
 
 -- ---- the first bytes of a line
 
+-- a line, by its kind
+abbrev count_by_kind : Counting → Bool → Tally → Option ℤ → LineKind → Counted
+count_by_kind c s tally own kind =
+    let at : Tally = record tally { last = option_or own tally.last; stamps = tally_after tally.stamps (next_line tally) kind } in
+    let bucket = bucket_at c own in
+    count_by c (fault_of s at bucket) at bucket
+
+kind_of-by_head : (line : List ℕ) (has_stamp : Bool) → kind_of (take 1027 line) has_stamp ≡ kind_of line has_stamp
+kind_of-by_head [] has_stamp = refl
+kind_of-by_head (byte ∷ []) has_stamp = refl
+kind_of-by_head (byte ∷ next ∷ rest) true = refl
+kind_of-by_head (byte ∷ next ∷ rest) false = refl
+
 pub count_line-by_head : (c : Counting) (s : Bool) (tally : Tally) (line : List ℕ)
     → ((last : Option ℤ) (is_first : Bool) (line : List ℕ) → c.instant last is_first (take 1027 line) ≡ c.instant last is_first line)
     → count_line c s tally (take 1027 line) ≡ count_line c s tally line
 unfolding count_line
-count_line-by_head c s tally line by_head = ap (count_own c s tally) (by_head _ _ line)
+count_line-by_head c s tally line by_head =
+    let own = instant_at c tally line in
+    ap (count_own c s tally (take 1027 line)) (by_head _ _ line) ∙ ap (count_by_kind c s tally own) (kind_of-by_head line (is_some own))

@@ -59,7 +59,7 @@ count_line-same : (c : Counting) (m n : ℕ) (s : Bool) (tally : Tally) (line : 
 unfolding count_line
 count_line-same c m n s tally line =
     let own = instant_at c tally line in
-    let at = tally_at tally own in
+    let at = tally_at tally line own in
     let bucket = bucket_at c own in
     count_by-same c m n (fault_of s at bucket) at bucket
 

@@ -2,6 +2,7 @@ pub mod BlockLemmas
 pub mod CountLemmas
 pub mod EmptyLemmas
 pub mod RowLemmas
+pub mod StampLemmas
 pub mod StandLemmas
 pub mod StepLemmas
 pub mod SumLemmas

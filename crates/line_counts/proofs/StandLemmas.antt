@@ -22,6 +22,7 @@ use Rattle.line_counts.specs.declared.tallies.Tally.{Tally}
 use Rattle.line_counts.proofs.CountLemmas.{count_line-by_head, input_begins, input_ended, input_falls}
 use Rattle.line_counts.proofs.CountLemmas.{input_known, lines_after, lines_after_feed, lines_all_ended}
 use Rattle.line_counts.proofs.CountLemmas.{lines_at_end, lines_more, open_known}
+use Rattle.line_counts.proofs.StampLemmas.{input_stamps}
 
 pub part_split : (taken part : List ℕ) (n : ℕ) → (taken ++ take n part) ++ drop n part ≡ taken ++ part
 part_split taken part n = append_assoc taken (take n part) (drop n part) ∙ ap (λ (z : List ℕ). taken ++ z) (take-append-drop n part)
@@ -220,6 +221,7 @@ completes c s base b d e pending pending' tally input h sent written =
     record {
       written = subst (λ (z : Counted). Appends base e z.text) (sym whole) (Appends-flushed base d e pending' (h.text ++ last_row c tally.row) all written);
       well = ap (λ (z : Counted). z.end) whole;
+      stamps = input_stamps c s input h.text tally h.lines;
     }
 
 pub last_cut : (c : Counting) (s : Bool) (base b d : Option (List ℕ)) (pending : List ℕ) (tally : Tally) (input : List ℕ)

@@ -10,23 +10,24 @@ use Rattle.line_counts.specs.declared.tallies.CountFault.TheVariants.{Read, Writ
 use Rattle.line_counts.specs.declared.tallies.Tally.{Tally}
 
 -- a line, by its instant and its bucket
-line_known : (c : Counting) (s : Bool) (tally at : Tally) (line : List ℕ) (own bucket : Option ℤ) → own ≡ instant_at c tally line → at ≡ tally_at tally own
+line_known : (c : Counting) (s : Bool) (tally at : Tally) (line : List ℕ) (own bucket : Option ℤ) → own ≡ instant_at c tally line
+    → at ≡ tally_at tally line own
     → bucket ≡ bucket_at c own → count_line c s tally line ≡ count_by c (fault_of s at bucket) at bucket
 unfolding count_line
 line_known c s tally at line own bucket i a b =
-    ap (count_own c s tally) (sym i) ∙ ap (λ (z : Tally). count_by c (fault_of s z (bucket_at c own)) z (bucket_at c own)) (sym a)
+    ap (count_own c s tally line) (sym i) ∙ ap (λ (z : Tally). count_by c (fault_of s z (bucket_at c own)) z (bucket_at c own)) (sym a)
     ∙ ap (λ (z : Option ℤ). count_by c (fault_of s at z) at z) (sym b)
 
 -- a line that ends the run
 pub line_at_fault : (c : Counting) (s : Bool) (tally at : Tally) (line : List ℕ) (own bucket : Option ℤ) (fault : CountFault) → own ≡ instant_at c tally line
-    → at ≡ tally_at tally own → bucket ≡ bucket_at c own → Some fault ≡ fault_of s at bucket
+    → at ≡ tally_at tally line own → bucket ≡ bucket_at c own → Some fault ≡ fault_of s at bucket
     → count_line c s tally line ≡ outcome (last_row c at.row) (Err fault)
 line_at_fault c s tally at line own bucket fault i a b e =
     line_known c s tally at line own bucket i a b ∙ ap (λ (z : Option CountFault). count_by c z at bucket) (sym e)
 
 -- any other line
 pub line_passed : (c : Counting) (s : Bool) (tally at : Tally) (line : List ℕ) (own bucket : Option ℤ) → own ≡ instant_at c tally line
-    → at ≡ tally_at tally own → bucket ≡ bucket_at c own → None ≡ fault_of s at bucket
+    → at ≡ tally_at tally line own → bucket ≡ bucket_at c own → None ≡ fault_of s at bucket
     → count_line c s tally line ≡ outcome (rows_by c at.row bucket) (Ok (tally_by at bucket))
 line_passed c s tally at line own bucket i a b e =
     line_known c s tally at line own bucket i a b ∙ ap (λ (z : Option CountFault). count_by c z at bucket) (sym e)
@@ -51,7 +52,7 @@ no_write true tally None e = cc
 no_write true tally (Some start) e = no_write_if (goes_back tally.row start) (next_line tally) e
 
 pub falls_at : (c : Counting) (s : Bool) (tally at : Tally) (line : List ℕ) (own bucket : Option ℤ) (fault : CountFault) (old new : Option (List ℕ))
-    (before : List ℕ) → own ≡ instant_at c tally line → at ≡ tally_at tally own → bucket ≡ bucket_at c own → Some fault ≡ fault_of s at bucket
+    (before : List ℕ) → own ≡ instant_at c tally line → at ≡ tally_at tally line own → bucket ≡ bucket_at c own → Some fault ≡ fault_of s at bucket
     → Appends old new (before ++ last_row c at.row) → Falls fault (count_line c s tally line) old new before
 falls_at c s tally at line own bucket Read old new before i a b e h = absurd (no_read s at bucket e)
 falls_at c s tally at line own bucket Write old new before i a b e h = absurd (no_write s at bucket e)

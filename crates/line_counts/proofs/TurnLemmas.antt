@@ -63,15 +63,13 @@ block_taken c s first old now pending pending' work work' taken block h read sta
 }
 
 -- all of the input was taken in
-pub input_ends : (c : Counting) (s : Bool) (first old now : Devices) (pending : List ℕ) (work : Work) (taken : List ℕ) (tally : Tally) (back : Option ℕ)
+pub input_ends : (c : Counting) (s : Bool) (first old now : Devices) (pending : List ℕ) (work : Work) (taken : List ℕ) (tally : Tally)
     → GoesOn c s first old pending work taken → Consumes old.left now.left [] → IsAtEnd now.left
-    → Completes c s first.written now.written taken tally × (tally.back ≡ back) → now.read_failed ≡ old.read_failed
-    → now.write_failed ≡ old.write_failed → EndsWell c s first now back
-input_ends c s first old now pending work taken tally back h none end completes r w = record {
+    → Completes c s first.written now.written taken tally → now.read_failed ≡ old.read_failed
+    → now.write_failed ≡ old.write_failed → EndsWell c s first now tally
+input_ends c s first old now pending work taken tally h none end completes r w = record {
   none_left = input-none_left first.left old.left now.left taken h.consumed none end;
-  tally = tally;
-  back_is = completes.1;
-  completes = input-end first.left old.left now.left taken (λ input. Completes c s first.written now.written input tally) h.consumed none end completes.0;
+  completes = input-end first.left old.left now.left taken (λ input. Completes c s first.written now.written input tally) h.consumed none end completes;
   no_read_failed = r ∙ h.no_read_failed;
   no_write_failed = w ∙ h.no_write_failed;
 }
@@ -107,16 +105,16 @@ end_falls c s first old now pending work taken fault h none end ends r w =
     (input-end first.left old.left now.left taken (λ input. Ends c s first.written now.written fault input) h.consumed none end ends) r w
 
 -- the end of the work, as it ends
-pub finishes : (c : Counting) (s : Bool) (first old now : Devices) (pending : List ℕ) (work : Work) (taken : List ℕ) (tally : Tally)
-    (result : Result (Option ℕ) CountFault) → GoesOn c s first old pending work taken → Consumes old.left now.left [] → IsAtEnd now.left
-    → IfOk result (λ back. (base : Option (List ℕ)) (input : List ℕ) → Stands c s base old.written pending work input
-    → Completes c s base now.written input tally × (tally.back ≡ back))
+pub finishes : (c : Counting) (s : Bool) (first old now : Devices) (pending : List ℕ) (work : Work) (taken : List ℕ)
+    (result : Result Tally CountFault) → GoesOn c s first old pending work taken → Consumes old.left now.left [] → IsAtEnd now.left
+    → IfOk result (λ tally. (base : Option (List ℕ)) (input : List ℕ) → Stands c s base old.written pending work input
+    → Completes c s base now.written input tally)
     → IfErr result (λ fault. (base : Option (List ℕ)) (input : List ℕ) → Stands c s base old.written pending work input
     → Ends c s base now.written fault input) → now.read_failed ≡ old.read_failed → now.write_failed ≡ mark_after result old.write_failed
     → Finishes result c s first now
-finishes c s first old now pending work taken tally (Ok back) h none end completes ends r w =
-    input_ends c s first old now pending work taken tally back h none end (completes first.written taken h.stands) r w
-finishes c s first old now pending work taken tally (Err fault) h none end completes ends r w =
+finishes c s first old now pending work taken (Ok tally) h none end completes ends r w =
+    input_ends c s first old now pending work taken tally h none end (completes first.written taken h.stands) r w
+finishes c s first old now pending work taken (Err fault) h none end completes ends r w =
     end_falls c s first old now pending work taken fault h none end (ends first.written taken h.stands) r w
 
 pub some_count : (n : ℕ) → n ≢ 0 → 0 < n

@@ -1,10 +1,12 @@
 -- The rows of an input: a run of lines of one bucket has a row, and so has each bucket without lines before the next one, unless these
 -- are more than have rows. A text with their number is in place of those rows.
 use Rattle.std.specs.Prelude.{ℕ, suc, zero, ◌+◌, ◌==◌, Bool, true, false, min, nat_lt, List, [], ◌∷◌, ◌++◌, if◌then◌else◌, ℤ, int_lt, Option}
-use Rattle.std.specs.Prelude.{Some, None, Result, Ok, Err}
+use Rattle.std.specs.Prelude.{Some, None, is_some, Result, Ok, Err}
 use Rattle.std.specs.Option.{option_and_then, option_or}
 use Rattle.std.specs.Ordering.{int_eq}
 use Rattle.line_devices.specs.Lines.{lines_of, whole_lines_of}
+use Rattle.line_devices.specs.StampTallies.{kind_of}
+use Rattle.line_devices.specs.StampTallies as stamp_tallies
 use Rattle.line_counts.specs.Counting.{Counting, empty_count, most}
 use Rattle.line_counts.specs.declared.tallies.CountFault.{CountFault}
 use Rattle.line_counts.specs.declared.tallies.CountFault.TheVariants.{Missing, Back}
@@ -17,7 +19,7 @@ one_more count = min (count + 1) most
 
 -- the tally before the first line
 abbrev pub first_tally : Tally
-first_tally = record { lines = 0; last = None; row = None; back = None }
+first_tally = record { lines = 0; last = None; row = None; back = None; stamps = stamp_tallies.first_tally }
 
 -- at most this number of rows without lines, from a bucket on and before another
 unfoldable pub empty_rows : Counting → ℕ → ℤ → ℤ → List ℕ
@@ -82,11 +84,12 @@ tally_after tally start = record {
   last = tally.last;
   row = Some (row_after tally.row start);
   back = option_or tally.back (back_of (goes_back tally.row start) (next_line tally));
+  stamps = tally.stamps;
 }
 
 -- the tally after a line without a bucket
 abbrev pub tally_passed : Tally → Tally
-tally_passed tally = record { lines = next_line tally; last = tally.last; row = tally.row; back = tally.back }
+tally_passed tally = record tally { lines = next_line tally }
 
 -- the fault of a line if the run is strict: it has no bucket, or goes back
 abbrev pub fault_of : Bool → Tally → Option ℤ → Option CountFault
@@ -118,19 +121,22 @@ abbrev pub bucket_at : Counting → Option ℤ → Option ℤ
 bucket_at counting own = option_and_then counting.bucket own
 
 -- the tally at a line of an instant, which is the last one from then on
-abbrev pub tally_at : Tally → Option ℤ → Tally
-tally_at tally own = record { lines = tally.lines; last = option_or own tally.last; row = tally.row; back = tally.back }
+abbrev pub tally_at : Tally → List ℕ → Option ℤ → Tally
+tally_at tally line own = record tally {
+  last = option_or own tally.last;
+  stamps = stamp_tallies.tally_after tally.stamps (next_line tally) (kind_of line (is_some own));
+}
 
 -- a line, by its instant
-abbrev pub count_own : Counting → Bool → Tally → Option ℤ → Counted
-count_own counting is_strict tally own =
-    let at = tally_at tally own in
+abbrev pub count_own : Counting → Bool → Tally → List ℕ → Option ℤ → Counted
+count_own counting is_strict tally line own =
+    let at = tally_at tally line own in
     let bucket = bucket_at counting own in
     count_by counting (fault_of is_strict at bucket) at bucket
 
 -- a line
 unfoldable pub count_line : Counting → Bool → Tally → List ℕ → Counted
-count_line counting is_strict tally line = count_own counting is_strict tally (instant_at counting tally line)
+count_line counting is_strict tally line = count_own counting is_strict tally line (instant_at counting tally line)
 
 -- what follows a text
 abbrev pub then_on : List ℕ → Result Tally CountFault → (Tally → Counted) → Counted

@@ -2,5 +2,6 @@ pub mod Counting
 pub mod Counts
 pub mod Laws
 pub mod Progress
+pub mod Stamps
 pub mod Steps
 pub mod Turns

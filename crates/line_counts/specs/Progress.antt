@@ -6,6 +6,7 @@ use Rattle.line_devices.specs.Lines.{lines_of}
 use Rattle.line_devices.specs.Writing.{AppendsBeginning, Sends}
 use Rattle.line_counts.specs.Counting.{Counting}
 use Rattle.line_counts.specs.Counts.{Counted, count_input, count_lines, outcome, first_tally}
+use Rattle.line_counts.specs.Stamps.{stamp_tally}
 use Rattle.line_counts.specs.declared.lines.Work.{Work}
 use Rattle.line_counts.specs.declared.tallies.CountFault.{CountFault}
 use Rattle.line_counts.specs.declared.tallies.CountFault.TheVariants.{Read, Write, Missing, Back}
@@ -52,7 +53,8 @@ pub record AllSent (counting : Counting) (is_strict : Bool) (base now : Option (
   pub lines : count_lines counting is_strict first_tally (lines_of input) ≡ outcome text (Ok tally)
   pub sent : Sends base now pending text
 
--- all of the output for an input was written, and no line ended the run
+-- all of the output for an input was written, no line ended the run, and the lines without a stamp are those of the input
 pub record Completes (counting : Counting) (is_strict : Bool) (base now : Option (List ℕ)) (input : List ℕ) (tally : Tally) : Type 0 where
   pub written : Appends base now (count_input counting is_strict input).text
   pub well : (count_input counting is_strict input).end ≡ Ok tally
+  pub stamps : tally.stamps ≡ stamp_tally counting input

@@ -1,5 +1,5 @@
 -- The reader and the writer while a program counts an input, block by block.
-use Rattle.std.specs.Prelude.{◌≡◌, ℕ, ◌-◌, ◌^◌, ◌≤◌, ◌⊎◌, Bool, true, false, List, [], length, Option, Some, Result, Ok, Err, IfSome}
+use Rattle.std.specs.Prelude.{◌≡◌, ℕ, ◌-◌, ◌^◌, ◌≤◌, ◌⊎◌, Bool, true, false, List, [], length, Some, Result, Ok, Err, IfSome}
 use Rattle.std.specs.Io.KnownBytes.{Appends, Consumes}
 use Rattle.line_devices.specs.Device.{Devices}
 use Rattle.line_counts.specs.Counting.{Counting}
@@ -18,11 +18,9 @@ pub record GoesOn (counting : Counting) (is_strict : Bool) (first now : Devices)
   pub no_read_failed : now.read_failed ≡ false
   pub no_write_failed : now.write_failed ≡ false
 
--- the input is at its end, and its rows were written. `back` is the first line that goes back
-pub record EndsWell (counting : Counting) (is_strict : Bool) (first now : Devices) (back : Option ℕ) : Type 0 where
+-- the input is at its end, its rows were written, and the tally is that of its lines
+pub record EndsWell (counting : Counting) (is_strict : Bool) (first now : Devices) (tally : Tally) : Type 0 where
   pub none_left : IfSome first.left (λ _. now.left ≡ Some [])
-  pub tally : Tally
-  pub back_is : tally.back ≡ back
   pub completes : IfSome first.left (λ input. Completes counting is_strict first.written now.written input tally)
   pub no_read_failed : now.read_failed ≡ false
   pub no_write_failed : now.write_failed ≡ false
@@ -40,8 +38,8 @@ pub record StopsAt (counting : Counting) (is_strict : Bool) (first now : Devices
   pub no_read_failed : now.read_failed ≡ false
 
 -- the reader and the writer after the end of the work
-abbrev pub Finishes : Result (Option ℕ) CountFault → Counting → Bool → Devices → Devices → Type 0
-Finishes (Ok back) counting is_strict first now = EndsWell counting is_strict first now back
+abbrev pub Finishes : Result Tally CountFault → Counting → Bool → Devices → Devices → Type 0
+Finishes (Ok tally) counting is_strict first now = EndsWell counting is_strict first now tally
 Finishes (Err Read) counting is_strict first now = StopsAtRead counting is_strict first now
 Finishes (Err Write) counting is_strict first now = StopsAt counting is_strict first now Write true
 Finishes (Err (Missing line)) counting is_strict first now = StopsAt counting is_strict first now (Missing line) false

@@ -5,15 +5,15 @@ ghost use Rattle.line_counts.specs.Turns.{Finishes};
 
 use crate::buckets::Buckets;
 use crate::lines::{Work, feed, finish};
-use crate::tallies::CountFault;
+use crate::tallies::{CountFault, Tally};
 use line_devices::devices::{Sink, Source};
 use line_devices::sending::Pending;
 
 // The most bytes of a read.
 const BLOCK: usize = 65_536;
 
-/// Reads lines to the end of the input, and writes a row for each bucket. Returns the number of the
-/// first line whose bucket is before that of the row then.
+/// Reads lines to the end of the input, and writes a row for each bucket. Returns the tally of the
+/// lines.
 ///
 /// A run of lines of one bucket makes a row, with a row for each bucket without lines before a
 /// later one. A line without a bucket does not count. A strict count ends at the first line without
@@ -25,7 +25,7 @@ pub fn count<B: Buckets, R: Source, W: Sink>(
     is_strict: bool,
     reader: &mut R,
     writer: &mut W,
-) -> Result<Option<u64>, CountFault>
+) -> Result<Tally, CountFault>
     requires reader { R.is_marked reader.old ≡ false }
     requires writer { W.is_marked writer.old ≡ false }
     ensures { Finishes result (B.counting buckets.now) is_strict

@@ -107,20 +107,20 @@ fn take_front<B: Buckets, W: Sink>(
     Ok(end + 1)
 }
 
-/// Counts the last line, if no line feed ends it, and writes all rows. Returns the number of the
-/// first line that goes back.
+/// Counts the last line, if no line feed ends it, and writes all rows. Returns the tally of all
+/// lines.
 pub(crate) fn finish<B: Buckets, W: Sink>(
     buckets: &B,
     is_strict: bool,
     writer: &mut W,
     pending: &mut Pending,
     work: &mut Work,
-) -> Result<Option<u64>, CountFault>
-    ensures completes { IfOk result (λ back. (base : Option (List ℕ)) (taken : List ℕ)
+) -> Result<Tally, CountFault>
+    ensures completes { IfOk result (λ tally. (base : Option (List ℕ)) (taken : List ℕ)
         → Stands (B.counting buckets.now) is_strict base (W.written writer.old)
         pending.old work.old taken
-        → Completes (B.counting buckets.now) is_strict base (W.written writer.new) taken
-        work.new.tally × (work.new.tally.back ≡ back)) }
+        → Completes (B.counting buckets.now) is_strict base (W.written writer.new)
+        taken tally) }
     ensures ends { IfErr result (λ fault. (base : Option (List ℕ)) (taken : List ℕ)
         → Stands (B.counting buckets.now) is_strict base (W.written writer.old)
         pending.old work.old taken
@@ -130,7 +130,7 @@ pub(crate) fn finish<B: Buckets, W: Sink>(
     take_rest(buckets, is_strict, writer, pending, work)?;
     send_last(buckets, writer, pending, &work.tally)?;
     flush(writer, pending)?;
-    Ok(work.tally.back)
+    Ok(work.tally)
 }
 
 // Counts the last line, if no line feed ends it.

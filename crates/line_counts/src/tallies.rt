@@ -10,6 +10,7 @@ ghost use Rattle.line_counts.specs.Progress.{Takes, mark_after};
 use crate::buckets::Buckets;
 use line_devices::devices::{DeviceFault, Sink};
 use line_devices::sending::{Pending, flush, send};
+use line_devices::stamp_tallies::{StampTally, kind_of};
 use utc_times::UtcDateTime;
 
 /// The row of lines of one bucket.
@@ -32,6 +33,8 @@ pub struct Tally {
     pub row: Option<Row>,
     /// The number of the first line whose bucket is before that of the row then.
     pub back: Option<u64>,
+    /// How many of them have no stamp.
+    pub stamps: StampTally,
 }
 
 /// The reason why a count ended before the end of the input.
@@ -67,6 +70,7 @@ impl Tally {
             last: None,
             row: None,
             back: None,
+            stamps: StampTally::new(),
         }
     }
 }
@@ -86,7 +90,7 @@ pub(crate) fn take_line<B: Buckets, W: Sink>(
     ensures mark { W.is_marked writer.new ≡ mark_after result (W.is_marked writer.old) }
 {
     let own = buckets.instant_of(tally.last, tally.lines == 0, line);
-    note(tally, &own);
+    note(tally, line, &own);
     let bucket = bucket_at(buckets, &own);
     if let Some(fault) = fault_of(is_strict, tally, &bucket) {
         send_last(buckets, writer, pending, tally)?;
@@ -99,10 +103,12 @@ pub(crate) fn take_line<B: Buckets, W: Sink>(
     Ok(())
 }
 
-// Keeps the instant of a line as the last one, if it has one.
-fn note(tally: &mut Tally, own: &Option<UtcDateTime>)
-    ensures { tally.new ≡ tally_at tally.old own.now }
+// Keeps the instant of a line as the last one, if it has one, and counts the line by its stamp.
+fn note(tally: &mut Tally, line: &[u8], own: &Option<UtcDateTime>)
+    ensures { tally.new ≡ tally_at tally.old line.now own.now }
 {
+    let number = tally.lines.saturating_add(1);
+    tally.stamps = tally.stamps.after(number, kind_of(line, own.is_some()));
     if own.is_some() {
         tally.last = *own;
     }
@@ -167,6 +173,7 @@ fn tally_after(tally: &Tally, start: UtcDateTime) -> Tally
         last: tally.last,
         row: Some(row_after(&tally.row, start)),
         back: tally.back.or(back_of(goes_back(&tally.row, start), number)),
+        stamps: tally.stamps,
     }
 }
 
@@ -186,6 +193,7 @@ fn tally_passed(tally: &Tally) -> Tally
         last: tally.last,
         row: tally.row,
         back: tally.back,
+        stamps: tally.stamps,
     }
 }
 

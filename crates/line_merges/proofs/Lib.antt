@@ -5,6 +5,7 @@ pub mod LineLemmas
 pub mod MergeLemmas
 pub mod OrderLemmas
 pub mod PassLemmas
+pub mod PlaceLemmas
 pub mod ReadLemmas
 pub mod ExistLemmas
 pub mod StateLemmas

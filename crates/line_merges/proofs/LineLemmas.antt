@@ -1,11 +1,12 @@
 -- The lines of bytes, one after another.
 use Rattle.std.proofs.Common.{◌≡◌, ◌≢◌, ℕ, zero, suc, ◌+◌, ◌<◌, ◌≤◌, ◌⊎◌, inl, inr, Bool, true, false, nat_eq, nat_lt, List, [], ◌∷◌, ◌++◌, length, take}
-use Rattle.std.proofs.Common.{drop, get_or, ℤ, Option, refl, sym, ap, subst, ◌∙◌, arith, append_assoc, append-nil}
+use Rattle.std.proofs.Common.{drop, get_or, refl, sym, ap, subst, ◌∙◌, arith, append_assoc, append-nil}
 use Rattle.std.proofs.lemmas.Bool.{cases_Bool, cases_lt, eqb-true, false≢true}
 use Rattle.std.proofs.lemmas.Bool.Decides.{nat_tests}
 use Rattle.std.proofs.lemmas.List.{take_all, take-append-le, drop_all}
 use Rattle.line_devices.specs.LineLemmas.{pieces_of-parts, take-line_feed, whole_lines_of-parts}
 use Rattle.line_devices.specs.LineParts.{HasNone, ended_from, rest_from}
+use Rattle.line_devices.specs.StampTallies.{kind_of}
 use Rattle.line_merges.specs.Instants.{LogInstants}
 use Rattle.line_merges.specs.LineFronts.{line_in, has_line_feed, behind_line, front_line}
 use Rattle.line_merges.specs.Lines.{Line, line_at, lines_at, lines_from, last_piece, place_after}
@@ -166,19 +167,26 @@ front_whole bytes end none all =
       feed_is = sym feed;
     }
 
--- the bytes that decide on the instant of the first line
-pub line_decided : (instant : List ℕ → Option ℤ) (bytes future : List ℕ) → ((line : List ℕ) → instant (take 1027 line) ≡ instant line)
-    → (future ≡ []) ⊎ ((1027 ≤ length bytes) ⊎ (has_line_feed bytes ≡ true)) → instant (line_in (bytes ++ future)) ≡ instant (line_in bytes)
-line_decided instant bytes future by_head (inl none) = rw (none, append-nil bytes) refl
-line_decided instant bytes future by_head (inr (inr feed)) = ap instant (longer-ended bytes future feed).line
-line_decided instant bytes future by_head (inr (inl long)) =
+-- the first bytes of a line decide on how it counts
+pub kind_of-by_head : (line : List ℕ) (has_stamp : Bool) → kind_of (take 1027 line) has_stamp ≡ kind_of line has_stamp
+kind_of-by_head [] has_stamp = refl
+kind_of-by_head (byte ∷ []) has_stamp = refl
+kind_of-by_head (byte ∷ next ∷ rest) true = refl
+kind_of-by_head (byte ∷ next ∷ rest) false = refl
+
+-- the bytes that decide on the first line
+pub line_decided : {A : Type 0} (of : List ℕ → A) (bytes future : List ℕ) → ((line : List ℕ) → of (take 1027 line) ≡ of line)
+    → (future ≡ []) ⊎ ((1027 ≤ length bytes) ⊎ (has_line_feed bytes ≡ true)) → of (line_in (bytes ++ future)) ≡ of (line_in bytes)
+line_decided of bytes future by_head (inl none) = rw (none, append-nil bytes) refl
+line_decided of bytes future by_head (inr (inr feed)) = ap of (longer-ended bytes future feed).line
+line_decided of bytes future by_head (inr (inl long)) =
     elim (cases_Bool (has_line_feed bytes)) [
-      | inl feed ↦ ap instant (longer-ended bytes future feed).line
+      | inl feed ↦ ap of (longer-ended bytes future feed).line
       | inr none ↦
           let longer = (longer-open bytes future none).line in
           let here = (ended-none [] bytes none).line in
           let front : take 1027 (bytes ++ line_in future) ≡ take 1027 bytes = take-append-le 1027 bytes (line_in future) long in
-          ap instant longer ∙ (sym (by_head (bytes ++ line_in future)) ∙ (ap instant front ∙ (by_head bytes ∙ ap instant (sym here))))
+          ap of longer ∙ (sym (by_head (bytes ++ line_in future)) ∙ (ap of front ∙ (by_head bytes ∙ ap of (sym here))))
     ]
 
 -- the bytes up to the first line feed, or all

@@ -68,6 +68,9 @@ module _ (instant : ℕ → LogInstants) (is_strict : Bool) (fronts : ℕ → Op
   pub next_instant : (first_line (instant k) next.front.place (lefts k)).instant ≡ next.front.next
   next_instant = rw here.1 ((known k next.front next.has).0.next next.line here.0 here.2)
 
+  pub next_kind : (first_line (instant k) next.front.place (lefts k)).kind ≡ next.front.kind
+  next_kind = rw here.1 ((known k next.front next.has).0.kind next.line here.0 here.2)
+
   -- it is the first of the lines that are left
   pub next_lines : front_lines (instant k) (fronts k) (lefts k) ≡ first_line (instant k) next.front.place (lefts k)
       ∷ lines_from (instant k) (place_after next.front.place (first_line (instant k) next.front.place (lefts k))) (behind_line (lefts k))
@@ -84,7 +87,7 @@ module _ (instant : ℕ → LogInstants) (is_strict : Bool) (fronts : ℕ → Op
 
   -- the place after it
   pub next_place : place_after next.front.place (first_line (instant k) next.front.place (lefts k)) ≡ place_behind next.front
-  next_place = rw next_instant refl
+  next_place = rw (next_instant, next_kind) refl
 
   pub next_forward : is_strict ≡ true → (first_line (instant k) next.front.place (lefts k)).is_back ≡ false
   next_forward strict = rw next_instant ((known k next.front next.has).1 strict next.line)

@@ -53,6 +53,7 @@ pub record Passing (old now : Front) (before at : Devices) (was_pending pending 
   pub still : old.is_ended ≡ false → now.is_ended ≡ false
   pub place : now.place ≡ old.place
   pub next : now.next ≡ old.next
+  pub kind : now.kind ≡ old.kind
 
 pub passing_first : (front : Front) (left w : Option (List ℕ)) (r m : Bool) (pending : List ℕ)
     → Passing front front (devices left w r m) (devices left w r m) pending pending 0
@@ -69,6 +70,7 @@ passing_first front left w r m pending = record {
   still = λ e. e;
   place = refl;
   next = refl;
+  kind = refl;
 }
 
 module _ (old now : Front) (before : Devices) (left w w' : Option (List ℕ)) (r m m' : Bool) (was_pending pending pending' : List ℕ) (turn : ℕ)
@@ -94,9 +96,9 @@ module _ (old now : Front) (before : Devices) (left w w' : Option (List ℕ)) (r
   -- the line ends in the bytes that were read
   pub line_ends : (at_place new : Front) → has_line_feed now.buffer ≡ true → Sends w w' pending' (pending ++ front_line now.buffer) → m' ≡ m
       → new.buffer ≡ behind_line now.buffer → new.is_ended ≡ now.is_ended → at_place.place ≡ now.place → at_place.next ≡ now.next
-      → new.place ≡ place_behind at_place
+      → at_place.kind ≡ now.kind → new.place ≡ place_behind at_place
       → PassesLine (Ok true) old new before (devices left w' r m') was_pending pending'
-  line_ends at_place new feed sent mark buffer ended same next place = (
+  line_ends at_place new feed sent mark buffer ended same next kind place = (
     h.more,
     h.consumed,
     λ e. (h.ended e).0,
@@ -104,7 +106,7 @@ module _ (old now : Front) (before : Devices) (left w w' : Option (List ℕ)) (r
       text = ap (λ (z : List ℕ). front_line (old.buffer ++ h.more) ++ z) buffer ∙ rest_is;
       feed = feed_is ∙ feed;
       unended = λ e. absurd (false≢true (sym e));
-      place = place ∙ rw (same, next, h.place, h.next) refl;
+      place = place ∙ rw (same, next, kind, h.place, h.next, h.kind) refl;
       ended = λ e. (ended ∙ (h.ended e).1, (h.ended e).2);
       end = λ e f. absurd (false≢true (sym (ended ∙ h.still e) ∙ f));
       sent = part_sent sent;
@@ -172,7 +174,8 @@ module _ (old now : Front) (before : Devices) (left w w' : Option (List ℕ)) (r
       (ended : mid.is_ended ≡ now.is_ended) (place : mid.place ≡ now.place)
       (k : (more : List ℕ) × Reads mid new (devices left w' r m') after more
       × (Sends w' after.written last pending' × IsUnfailed (devices left w' r m') after × (new.is_ended ≡ false → 0 < length more)
-      × (new.is_ended ≡ true → more ≡ []) × (new.next ≡ mid.next))) (same_next : mid.next ≡ now.next) where
+      × (new.is_ended ≡ true → more ≡ []) × (new.next ≡ mid.next) × (new.kind ≡ mid.kind))) (same_next : mid.next ≡ now.next)
+      (same_kind : mid.kind ≡ now.kind) where
     all_more : List ℕ
     all_more = h.more ++ k.0
 
@@ -218,6 +221,7 @@ module _ (old now : Front) (before : Devices) (left w w' : Option (List ℕ)) (r
       still = λ _. more;
       place = k.1.place ∙ (place ∙ h.place);
       next = k.2.4 ∙ (same_next ∙ h.next);
+      kind = k.2.5 ∙ (same_kind ∙ h.kind);
     }
 
     -- the end of the log
@@ -236,7 +240,7 @@ module _ (old now : Front) (before : Devices) (left w w' : Option (List ℕ)) (r
             text = ap (λ (z : List ℕ). front_line (old.buffer ++ all_more) ++ z) (same ∙ empty) ∙ (append-nil (front_line (old.buffer ++ all_more)) ∙ text);
             feed = feed;
             unended = λ _. (same ∙ empty, still ∙ end);
-            place = behind ∙ rw (k.1.place, place, h.place, k.2.4, same_next, h.next) refl;
+            place = behind ∙ rw (k.1.place, place, h.place, k.2.4, same_next, h.next, k.2.5, same_kind, h.kind) refl;
             ended = λ e. (still ∙ end, (all_ended e).2);
             end = λ e _. at_end_later before.left left after.left h.more h.consumed (k.1.end (ended ∙ h.still e) end);
             sent = rw (text, all) all_sent;

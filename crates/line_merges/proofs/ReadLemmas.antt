@@ -1,7 +1,7 @@
 -- Reads of a log.
 use Rattle.std.proofs.Common.{◌≡◌, ℕ, ◌<◌, Bool, true, false, nat_eq, List, [], ◌∷◌, ◌++◌, length, Option, Some, None, Result, Ok, Err, refl, sym, ap, ◌∙◌}
 use Rattle.std.proofs.Common.{append-nil, append_assoc, length-append, arith, ℤ, ◌⊎◌, inl, inr, ◌≤◌, take, not, get_or, subst}
-use Rattle.std.specs.Prelude.{IsErrAnd}
+use Rattle.std.specs.Prelude.{IsErrAnd, is_some}
 use Rattle.std.specs.Io.KnownBytes.{Appends, Consumes, IsAtEnd, Keeps}
 use Rattle.std.proofs.lemmas.Bool.{false≢true, eqb-true}
 use Rattle.std.proofs.lemmas.Bool.Decides.{nat_tests}
@@ -11,7 +11,9 @@ use Rattle.line_devices.specs.InputLemmas.{Consumes-append, Consumes-nil, Consum
 use Rattle.line_devices.specs.Writing.{AppendsBeginning, Sends}
 use Rattle.line_devices.specs.WritingLemmas.{Appends-append, Appends-flushed, AppendsBeginning-flushed, Sends-nothing}
 use Rattle.line_devices.specs.LineParts.{HasNone}
-use Rattle.line_merges.proofs.LineLemmas.{line_decided, line_in-found}
+use Rattle.line_devices.specs.StampTallies.{kind_of}
+use Rattle.line_devices.specs.declared.stamp_tallies.LineKind.{LineKind}
+use Rattle.line_merges.proofs.LineLemmas.{kind_of-by_head, line_decided, line_in-found}
 use Rattle.line_merges.specs.Buffers.{Behind}
 use Rattle.line_merges.specs.Instants.{LogInstants, up_to}
 use Rattle.line_merges.specs.LineFronts.{has_line_feed, line_in}
@@ -69,9 +71,9 @@ read_failed old new left left' w w' r r' m m' was_pending pending more still buf
 -- bytes were read, or the end
 pub read_some : (old : Front) (new : Front) (count : ℕ) (left left' w w' : Option (List ℕ)) (r r' m m' : Bool) (was_pending pending : List ℕ)
     → old.is_ended ≡ false → Behind count old.buffer new.buffer left left' → new.place ≡ old.place → new.is_ended ≡ nat_eq count 0
-    → Appends w w' was_pending → pending ≡ [] → r' ≡ r → m' ≡ m → new.next ≡ old.next
+    → Appends w w' was_pending → pending ≡ [] → r' ≡ r → m' ≡ m → new.next ≡ old.next → new.kind ≡ old.kind
     → ReadsOn (Ok tt) old new (devices left w r m) (devices left' w' r' m') was_pending pending
-read_some old new count left left' w w' r r' m m' was_pending pending unended behind place ended written none read write next = (
+read_some old new count left left' w w' r r' m m' was_pending pending unended behind place ended written none read write next kind = (
   behind.more,
   record {
     added = behind.added;
@@ -86,6 +88,7 @@ read_some old new count left left' w w' r r' m m' was_pending pending unended be
     λ more. let some : nat_eq count 0 ≡ false = sym ended ∙ more in grind (arith, nat_tests, some, behind.number),
     λ end. no_bytes behind.more (behind.number ∙ eqb-true count 0 (sym ended ∙ end)),
     next,
+    kind,
   ),
 )
 
@@ -110,7 +113,7 @@ pub read_none : (front : Front) (left w : Option (List ℕ)) (r m : Bool) (pendi
 read_none front left w r m pending ended = (
   [],
   reads_first front left w r m,
-  (Sends-nothing w pending, record { read = refl; write = refl }, λ e. absurd (false≢true (sym e ∙ ended)), λ _. refl, refl),
+  (Sends-nothing w pending, record { read = refl; write = refl }, λ e. absurd (false≢true (sym e ∙ ended)), λ _. refl, refl, refl),
 )
 
 -- one read after another
@@ -155,10 +158,14 @@ pub look_ready : (instant : LogInstants) (old new : Front) (end : ℕ) (bytes : 
     → end ≤ length old.buffer → HasNone 10 old.buffer 0 end → (end < length old.buffer → get_or old.buffer end 0 ≡ 10)
     → own ≡ instant old.place.last (nat_eq old.place.lines 0) (take end bytes) → is_empty ≡ nat_eq (length bytes) 0 → new.buffer ≡ old.buffer
     → new.is_ended ≡ old.is_ended
-    → new.place ≡ old.place → new.has_line ≡ not is_empty → new.next ≡ up_to old.place.last own → IsReady instant new
-look_ready instant old new end bytes own is_empty by_head enough whole high none there is empty buffer ended place has next =
+    → new.place ≡ old.place → new.has_line ≡ not is_empty → new.next ≡ up_to old.place.last own → new.kind ≡ kind_of (take end bytes) (is_some own)
+    → IsReady instant new
+look_ready instant old new end bytes own is_empty by_head enough whole high none there is empty buffer ended place has next kind =
     let line : take end bytes ≡ line_in bytes = rw whole (line_in-found old.buffer end high none there) in
     let here : new.buffer ≡ bytes = buffer ∙ sym whole in
+    let first = instant old.place.last (nat_eq old.place.lines 0) in
+    let first_by_head = by_head old.place.last (nat_eq old.place.lines 0) in
+    let kind_in : List ℕ → LineKind = λ z. kind_of z (is_some (first z)) in
     record {
       line = λ some. rw here (not_empty bytes is_empty empty (sym has ∙ some));
       none = λ none. (
@@ -167,10 +174,13 @@ look_ready instant old new end bytes own is_empty by_head enough whole high none
             ∙ is_nil bytes is_empty empty (sym has ∙ none))) (ap has_line_feed (sym whole ∙ is_nil bytes is_empty empty (sym has ∙ none))),
       );
       next = λ some future more.
-          let first = instant old.place.last (nat_eq old.place.lines 0) in
-          let decided = line_decided first bytes future (by_head old.place.last (nat_eq old.place.lines 0)) (future_is old future enough (λ e. more (ended
-          ∙ e)) (sym whole)) in
+          let decided = line_decided first bytes future first_by_head (future_is old future enough (λ e. more (ended ∙ e)) (sym whole)) in
           rw (here, place) (ap (up_to old.place.last) (decided ∙ (ap first (sym line) ∙ sym is)) ∙ sym next);
+      kind = λ some future more.
+          let by_kind = λ (z : List ℕ). ap (λ (o : Option ℤ). kind_of (take 1027 z) (is_some o)) (first_by_head z)
+          ∙ kind_of-by_head z (is_some (first z)) in
+          let decided = line_decided kind_in bytes future by_kind (future_is old future enough (λ e. more (ended ∙ e)) (sym whole)) in
+          rw (here, place) (decided ∙ (ap kind_in (sym line) ∙ (ap (λ (o : Option ℤ). kind_of (take end bytes) (is_some o)) (sym is) ∙ sym kind)));
     }
 
 -- so many reads, with the pending bytes written before each

@@ -2,7 +2,7 @@
 use Rattle.std.proofs.Common.{◌≡◌, ◌≢◌, ℕ, ◌+◌, ◌-◌, ◌^◌, ◌<◌, ◌≤◌, Bool, true, false, min, cond, List, [], ◌++◌, length, Option, Some, None}
 use Rattle.std.proofs.Common.{Result, Ok, Err, refl, sym, ap, subst, ◌∙◌, inl, inr, arith, append-nil, length-append}
 use Rattle.std.specs.Io.KnownBytes.{Appends}
-use Rattle.std.specs.Option.{option_map, option_or}
+use Rattle.std.specs.Option.{option_map}
 use Rattle.std.specs.Prelude.{◌&&◌, IsErrAnd}
 use Rattle.std.proofs.lemmas.Bool.{cases_lt, false≢true}
 use Rattle.std.proofs.lemmas.List.Elements.{All-nil}
@@ -12,16 +12,18 @@ use Rattle.line_devices.specs.WritingLemmas.{Appends-flushed, AppendsBeginning-f
 use Rattle.line_merges.proofs.LineLemmas.{lines_from-nil}
 use Rattle.line_merges.proofs.MergeLemmas.{IsMerge-same}
 use Rattle.line_merges.proofs.ExistLemmas.{merge_exists}
+use Rattle.line_merges.proofs.PlaceLemmas.{log-stamps, place-back}
 use Rattle.line_merges.proofs.StateLemmas.{at_each}
 use Rattle.line_merges.proofs.StepLemmas.{buffer_of, still_left, still_read}
 use Rattle.line_merges.proofs.TextLemmas.{merge_text-more}
 use Rattle.line_merges.specs.Choices.{HaveEnded, IsNext}
 use Rattle.line_merges.specs.Instants.{LogInstants, is_before}
-use Rattle.line_merges.specs.Lines.{Line, first_back, first_place, lines_from, log_lines}
+use Rattle.line_merges.specs.Lines.{Line, first_place, lines_from, log_lines, place_after_lines}
 use Rattle.line_merges.specs.Merges.{IsMerge, merge_text, text_from}
 use Rattle.line_merges.specs.Runs.{AreRead, Ends, IsCut, IsDone, IsMerged, IsNew, IsRead, LogState, Merges, Output}
 use Rattle.line_merges.specs.Steps.{AreKnown, FindsLine, HasPassed, IsKnown, IsLeft, SendsNext, Stands, back_line, front_lines, fronts_of}
 use Rattle.line_merges.specs.declared.logs.Front.{Front}
+use Rattle.line_merges.specs.declared.logs.Place.{Place}
 use Rattle.line_merges.specs.declared.merges.MergeFault.{MergeFault}
 use Rattle.line_merges.specs.declared.merges.MergeFault.TheVariants.{Write, Endless}
 
@@ -93,7 +95,7 @@ new_passed instant (Some log) new = record {
   consumed = rw new.1 (Consumes-nil log.left);
   end = λ e. absurd (false≢true (sym new.2 ∙ e));
   unfailed = new.0;
-  back = λ left is. rw new.3 refl;
+  place = λ left is. rw new.3 refl;
 }
 
 pub stands_first : (instant : ℕ → LogInstants) (is_strict : Bool) (first : ℕ → Option LogState) (before : Output) (pending : List ℕ)
@@ -113,10 +115,6 @@ stands_first instant is_strict first before pending new unmarked none = record {
 }
 
 -- all logs are at their ends
-or_none : (a : Option ℕ) → option_or a None ≡ a
-or_none None = refl
-or_none (Some a) = refl
-
 no_front : (front : Front) → ◌≡◌ {A = Option Front} None (Some front) → ⊥
 no_front front e = cc
 
@@ -129,16 +127,22 @@ ended_left instant (Some log) is = let ended = is log.front refl in ([], rw ende
 ended_read : (instant : LogInstants) (first log : Option LogState) (passed : List ℕ)
     → ((front : Front) → option_map (λ (s : LogState). s.front) log ≡ Some front → (front.buffer ≡ []) × (front.is_ended ≡ true))
     → HasPassed instant first log passed → IsRead first log (passed ++ []) × IsDone instant first log (passed ++ [])
-unfolding first_back
+unfolding place_after_lines
 ended_read instant None None passed is h = (ap (λ (z : List ℕ). z ++ []) h, tt)
 ended_read instant None (Some log) passed is h = absurd h
 ended_read instant (Some first) None passed is h = absurd h
 ended_read instant (Some first) (Some log) passed is h =
     let ended = is log.front refl in
     let left : IsLeft (Some log.front) [] = ([], rw ended.0 refl, λ _. refl) in
-    let back = h.back [] left ∙ (ap (λ (z : List Line). option_or log.front.place.back (first_back z)) (lines_from-nil instant log.front.place)
-    ∙ or_none log.front.place.back) in
-    (rw ended.0 at h.consumed, (h.end ended.1, h.unfailed, sym back))
+    let place = h.place [] left ∙ ap (place_after_lines log.front.place) (lines_from-nil instant log.front.place) in (
+      rw ended.0 at h.consumed,
+      (
+        h.end ended.1,
+        h.unfailed,
+        ap (λ (z : Place). z.back) (sym place) ∙ place-back first_place (log_lines instant (passed ++ [])),
+        ap (λ (z : Place). z.stamps) (sym place) ∙ log-stamps instant (passed ++ []),
+      ),
+    )
 
 no_lines : (instant : LogInstants) (front : Option Front) → front_lines instant front [] ≡ []
 no_lines instant None = refl

@@ -2,7 +2,7 @@
 use Rattle.std.proofs.Common.{◌≡◌, ◌≢◌, ℕ, ◌+◌, ◌-◌, ◌^◌, ◌<◌, ◌≤◌, Bool, true, false, min, not, List, [], ◌∷◌, ◌++◌, length, Option, Some, None}
 use Rattle.std.proofs.Common.{Result, Ok, Err, refl, sym, ap, subst, ◌∙◌, inl, inr, arith, append_assoc, append-nil, length-append}
 use Rattle.std.specs.Io.KnownBytes.{Appends, Consumes}
-use Rattle.std.specs.Option.{option_map, option_or}
+use Rattle.std.specs.Option.{option_map}
 use Rattle.std.specs.Prelude.{All, IsErrAnd}
 use Rattle.std.proofs.lemmas.Bool.{cases_Bool}
 use Rattle.std.proofs.lemmas.List.Elements.{All-cons, All-nil}
@@ -13,8 +13,8 @@ use Rattle.line_devices.specs.WritingLemmas.{Sends-append, Appends-flushed, Appe
 use Rattle.line_merges.proofs.ExistLemmas.{merge_exists, merge_from}
 use Rattle.line_merges.proofs.LineLemmas.{ended-none, first_line, lines_from-first, lines_from-nil}
 use Rattle.line_merges.proofs.MergeLemmas.{IsMerge-same, behind-other, behind-rest, merges-keep}
-use Rattle.line_merges.proofs.NextLemmas.{IsAfter, after_feed, after_none, next_first, next_forward, next_instant, next_lines, next_some}
-use Rattle.line_merges.proofs.NextLemmas.{rest_behind}
+use Rattle.line_merges.proofs.NextLemmas.{IsAfter, after_feed, after_none, next_first, next_forward, next_instant, next_kind, next_lines}
+use Rattle.line_merges.proofs.NextLemmas.{next_some, rest_behind}
 use Rattle.line_merges.proofs.ReadLemmas.{Sends-pending, at_end_later, fails_later}
 use Rattle.line_merges.proofs.StateLemmas.{at_each, put, put-other, put-same}
 use Rattle.line_merges.proofs.TextLemmas.{NoneBack-line, merge_text-line, merge_text-more, open_after-line}
@@ -22,7 +22,7 @@ use Rattle.line_merges.specs.Choices.{IsNext}
 use Rattle.line_merges.specs.Instants.{LogInstants, is_before}
 use Rattle.line_merges.specs.Laws.{own_lines}
 use Rattle.line_merges.specs.LineFronts.{behind_line, feed_if, front_line, has_line_feed}
-use Rattle.line_merges.specs.Lines.{Line, back_of, first_back, lines_from, log_lines, place_after}
+use Rattle.line_merges.specs.Lines.{Line, first_place, lines_from, log_lines, place_after, place_after_lines}
 use Rattle.line_merges.specs.Logs.{AppendsFront, Fails, IsAtEndAfter, IsReady, Passed, place_behind}
 use Rattle.line_merges.specs.Merges.{IsFirst, IsMerge, behind, merge_text}
 use Rattle.line_merges.specs.Runs.{AreRead, IsCut, IsRead, LogState, Merges, Output}
@@ -108,7 +108,7 @@ found_passed instant (Some first) was now old new passed more e f h k none mark 
       end = end_found first.left old.left new.left (passed ++ old.front.buffer) more old.front.is_ended new.front.is_ended so.consumed k so.end
           (λ t. (ended t).1) end;
       unfailed = mark ∙ so.unfailed;
-      back = λ left is. rw place (so.back left (found_left old new more left buffer none (λ t. (ended t).0) is));
+      place = λ left is. rw place (so.place left (found_left old new more left buffer none (λ t. (ended t).0) is));
     } in
     subst (λ (z : Option LogState). HasPassed instant (Some first) z passed) (sym f) is
 
@@ -126,10 +126,6 @@ Sends-longer a b p xs ys h = record {
 
 same_front : (a b : Front) → ◌≡◌ {A = Option Front} (Some a) (Some b) → a ≡ b
 same_front a b e = cc
-
-or_assoc : (a b c : Option ℕ) → option_or (option_or a b) c ≡ option_or a (option_or b c)
-or_assoc None b c = refl
-or_assoc (Some a) b c = refl
 
 -- the bytes that are left with the line that was passed
 passed_left : (old new : LogState) (more left : List ℕ) (is_ended : Bool) (before after : Devices) (pending pending' : List ℕ)
@@ -159,21 +155,22 @@ passed_after old new more left is_ended before after pending pending' p is =
     )
 
 place_passed : (instant : LogInstants) (front : Front) (bytes : List ℕ) → (first_line instant front.place bytes).instant ≡ front.next
-    → place_after front.place (first_line instant front.place bytes) ≡ place_behind front
-place_passed instant front bytes next = rw next refl
+    → (first_line instant front.place bytes).kind ≡ front.kind → place_after front.place (first_line instant front.place bytes) ≡ place_behind front
+place_passed instant front bytes next kind = rw (next, kind) refl
 
 lines_passed : (instant : LogInstants) (old new : LogState) (more left : List ℕ) (is_ended : Bool) (before after : Devices)
     (pending pending' : List ℕ)
     → Passed is_ended old.front new.front before after pending pending' more → 0 < length (old.front.buffer ++ more)
-    → (first_line instant old.front.place (old.front.buffer ++ more)).instant ≡ old.front.next → (is : IsLeft (Some new.front) left)
+    → (first_line instant old.front.place (old.front.buffer ++ more)).instant ≡ old.front.next
+    → (first_line instant old.front.place (old.front.buffer ++ more)).kind ≡ old.front.kind → (is : IsLeft (Some new.front) left)
     → lines_from instant old.front.place (front_line (old.front.buffer ++ more) ++ left)
     ≡ first_line instant old.front.place (old.front.buffer ++ more) ∷ lines_from instant new.front.place left
-lines_passed instant old new more left is_ended before after pending pending' p some next is =
+lines_passed instant old new more left is_ended before after pending pending' p some next kind is =
     let all = old.front.buffer ++ more in
     let a = passed_after old new more left is_ended before after pending pending' p is in
     let long : 0 < length (all ++ is.0) = omega (arith, some, length-append all is.0) in
     let line = first_line instant old.front.place all in
-    let place : place_after old.front.place line ≡ new.front.place = place_passed instant old.front all next ∙ sym p.place in
+    let place : place_after old.front.place line ≡ new.front.place = place_passed instant old.front all next kind ∙ sym p.place in
     ap (lines_from instant old.front.place) a.0
     ∙ (lines_from-first instant old.front.place (all ++ is.0) long
     ∙ (ap (λ (z : Line). z ∷ lines_from instant (place_after old.front.place z) (behind_line (all ++ is.0))) (a.1.line instant old.front.place)
@@ -190,26 +187,24 @@ first_passed instant old new more left is_ended before after pending pending' p 
     ap (λ (z : Front). first_line instant z.place bytes) f
     ∙ (ap (first_line instant old.front.place) (e ∙ a.0) ∙ a.1.line instant old.front.place)
 
-back_passed : (instant : LogInstants) (old new : LogState) (passed more left : List ℕ) (is_ended : Bool) (before after : Devices)
+place_passed_on : (instant : LogInstants) (old new : LogState) (passed more left : List ℕ) (is_ended : Bool) (before after : Devices)
     (pending pending' : List ℕ)
     → Passed is_ended old.front new.front before after pending pending' more → 0 < length (old.front.buffer ++ more)
-    → (first_line instant old.front.place (old.front.buffer ++ more)).instant ≡ old.front.next → (old.front.is_ended ≡ true → more ≡ [])
-    → IsLeft (Some new.front) left
-    → first_back (log_lines instant (passed ++ (front_line (old.front.buffer ++ more) ++ left)))
-    ≡ option_or old.front.place.back (first_back (lines_from instant old.front.place (front_line (old.front.buffer ++ more) ++ left)))
-    → first_back (log_lines instant ((passed ++ front_line (old.front.buffer ++ more)) ++ left)) ≡ option_or new.front.place.back (first_back
-    (lines_from instant new.front.place left))
-unfolding first_back
-back_passed instant old new passed more left is_ended before after pending pending' p some next none is h =
+    → (first_line instant old.front.place (old.front.buffer ++ more)).instant ≡ old.front.next
+    → (first_line instant old.front.place (old.front.buffer ++ more)).kind ≡ old.front.kind → IsLeft (Some new.front) left
+    → place_after_lines first_place (log_lines instant (passed ++ (front_line (old.front.buffer ++ more) ++ left)))
+    ≡ place_after_lines old.front.place (lines_from instant old.front.place (front_line (old.front.buffer ++ more) ++ left))
+    → place_after_lines first_place (log_lines instant ((passed ++ front_line (old.front.buffer ++ more)) ++ left))
+    ≡ place_after_lines new.front.place (lines_from instant new.front.place left)
+unfolding place_after_lines
+place_passed_on instant old new passed more left is_ended before after pending pending' p some next kind is h =
     let all = old.front.buffer ++ more in
-    let lines = lines_passed instant old new more left is_ended before after pending pending' p some next is in
-    let line = first_line instant old.front.place all in
-    let place : (place_after old.front.place line).back ≡ new.front.place.back = ap (λ (z : Place). z.back) (place_passed instant old.front all next
-    ∙ sym p.place) in
-    ap (λ (z : List ℕ). first_back (log_lines instant z)) (append_assoc passed (front_line all) left)
-    ∙ (h ∙ (ap (λ (z : List Line). option_or old.front.place.back (first_back z)) lines
-    ∙ (sym (or_assoc old.front.place.back (back_of line) (first_back (lines_from instant new.front.place left)))
-    ∙ ap (λ (z : Option ℕ). option_or z (first_back (lines_from instant new.front.place left))) place)))
+    let lines = lines_passed instant old new more left is_ended before after pending pending' p some next kind is in
+    let place : place_after old.front.place (first_line instant old.front.place all) ≡ new.front.place = place_passed instant old.front all next kind
+    ∙ sym p.place in
+    ap (λ (z : List ℕ). place_after_lines first_place (log_lines instant z)) (append_assoc passed (front_line all) left)
+    ∙ (h ∙ (ap (place_after_lines old.front.place) lines
+    ∙ ap (λ (z : Place). place_after_lines z (lines_from instant new.front.place left)) place))
 
 -- a log of which a line was passed
 line_passed : (instant : LogInstants) (first was now : Option LogState) (old new : LogState) (passed more : List ℕ) (is_ended : Bool)
@@ -217,10 +212,11 @@ line_passed : (instant : LogInstants) (first was now : Option LogState) (old new
     → HasPassed instant first was passed → Consumes old.left new.left more → (old.front.is_ended ≡ true → more ≡ []) → new.has_failed ≡ old.has_failed
     → Passed is_ended old.front new.front before after pending pending' more → 0 < length (old.front.buffer ++ more)
     → (first_line instant old.front.place (old.front.buffer ++ more)).instant ≡ old.front.next
+    → (first_line instant old.front.place (old.front.buffer ++ more)).kind ≡ old.front.kind
     → HasPassed instant first now (passed ++ front_line (old.front.buffer ++ more))
-line_passed instant None was now old new passed more is_ended before after pending pending' e f b a h k none mark p some next =
+line_passed instant None was now old new passed more is_ended before after pending pending' e f b a h k none mark p some next kind =
     absurd (subst (λ (z : Option LogState). HasPassed instant None z passed) e h)
-line_passed instant (Some first) was now old new passed more is_ended before after pending pending' e f b a h k none mark p some next =
+line_passed instant (Some first) was now old new passed more is_ended before after pending pending' e f b a h k none mark p some next kind =
     let so = subst (λ (z : Option LogState). HasPassed instant (Some first) z passed) e h in
     let all = old.front.buffer ++ more in
     let consumed : Consumes first.left new.left (passed ++ all) =
@@ -230,8 +226,8 @@ line_passed instant (Some first) was now old new passed more is_ended before aft
       end = end_found first.left old.left new.left (passed ++ old.front.buffer) more old.front.is_ended new.front.is_ended so.consumed k so.end
           (λ t. sym a ∙ ((p.ended t).1 ∙ b)) (λ t u. rw (← b, ← a) (p.end t u));
       unfailed = mark ∙ so.unfailed;
-      back = λ left is. back_passed instant old new passed more left is_ended before after pending pending' p some next none is
-          (so.back (front_line all ++ left) (passed_left old new more left is_ended before after pending pending' none p is));
+      place = λ left is. place_passed_on instant old new passed more left is_ended before after pending pending' p some next kind is
+          (so.place (front_line all ++ left) (passed_left old new more left is_ended before after pending pending' none p is));
     } in
     subst (λ (z : Option LogState). HasPassed instant (Some first) z (passed ++ front_line all)) (sym f) is
 
@@ -449,6 +445,10 @@ module _ (instant : ℕ → LogInstants) (is_strict : Bool) (first was now : ℕ
     unfolding line all_bytes
     line_instant = rw (front_is, lefts_here) at (next_instant instant is_strict (fronts_of was) lefts k known all_left next)
 
+    line_kind : line.kind ≡ old.front.kind
+    unfolding line all_bytes
+    line_kind = rw (front_is, lefts_here) at (next_kind instant is_strict (fronts_of was) lefts k known all_left next)
+
     line_forward : is_strict ≡ true → line.is_back ≡ false
     unfolding line all_bytes
     line_forward strict = rw (front_is, lefts_here) at (next_forward instant is_strict (fronts_of was) lefts k known all_left next strict)
@@ -555,7 +555,7 @@ module _ (instant : ℕ → LogInstants) (is_strict : Bool) (first was now : ℕ
           let is_first : IsFirst (λ j. front_lines (instant j) (fronts_of was j) (before_lefts j)) k line =
           subst (IsFirst (λ j. front_lines (instant j) (fronts_of was j) (before_lefts j)) k) first_is (next_first instant is_strict
           (fronts_of was) before_lefts k known lefts_are next) in
-          let rest_lines = lines_passed (instant k) old new more (later k) is_ended _ _ pending' pending'' p some_bytes line_instant here in
+          let rest_lines = lines_passed (instant k) old new more (later k) is_ended _ _ pending' pending'' p some_bytes line_instant line_kind here in
           let all_lines : front_lines (instant k) (fronts_of was k) (before_lefts k) ≡ line ∷ lines_from (instant k) new.front.place (later k) =
           ap (front_lines (instant k) (fronts_of was k)) same ∙ (ap (λ (z : Option LogState). front_lines (instant k) (option_map (λ (s : LogState). s.front) z)
           (text ++ later k)) old_is ∙ rest_lines) in
@@ -595,7 +595,7 @@ module _ (instant : ℕ → LogInstants) (is_strict : Bool) (first was now : ℕ
               (rw (put-same k (h.passed k ++ front_line all_bytes) h.passed)
               (line_passed (instant k) (first k) (was k) (now k) old new (h.passed k) more is_ended _ _ pending' pending'' old_is new_is refl refl
               (h.logs k) consumed
-              none_more p.unfailed.read p some_bytes line_instant))
+              none_more p.unfailed.read p some_bytes line_instant line_kind))
               (λ j other. rw (put-other k (h.passed k ++ front_line all_bytes) h.passed j other, others j other) (h.logs j));
           sent =
               Sends-pending before.written mid.written after.written (pending' ++ front_line all_bytes) pending'' (merge_text (h.out ++

@@ -4,10 +4,12 @@ use Rattle.std.specs.Prelude.{Result, IfSome, MatchResult}
 use Rattle.std.specs.Option.{option_or}
 use Rattle.std.specs.Io.KnownBytes.{Appends, Consumes}
 use Rattle.line_devices.specs.Device.{Devices}
+use Rattle.line_devices.specs.StampTallies.{tally_after}
 use Rattle.line_devices.specs.Writing.{AppendsBeginning, Sends}
+use Rattle.line_devices.specs.declared.stamp_tallies.LineKind.TheVariants.{Empty}
 use Rattle.line_merges.specs.Instants.{LogInstants, is_before}
 use Rattle.line_merges.specs.LineFronts.{front_line, has_line_feed, line_in}
-use Rattle.line_merges.specs.Lines.{first_place, instant_at}
+use Rattle.line_merges.specs.Lines.{first_place, instant_at, kind_at}
 use Rattle.line_merges.specs.declared.logs.Front.{Front}
 use Rattle.line_merges.specs.declared.logs.Log.{Log}
 use Rattle.line_merges.specs.declared.logs.LogFault.{LogFault}
@@ -18,7 +20,7 @@ use Rattle.line_merges.specs.declared.logs.Place.{Place}
 abbrev pub new_log : {R : Type 0} → R → Log R
 new_log reader = record {
   reader = reader;
-  front = record { buffer = []; is_ended = false; place = first_place; has_line = false; next = None };
+  front = record { buffer = []; is_ended = false; place = first_place; has_line = false; next = None; kind = Empty };
 }
 
 -- the bytes decide on the instant of the next line: a line feed ends it, or the log is at its end, or it is long
@@ -31,6 +33,8 @@ pub record IsReady (instant : LogInstants) (front : Front) : Type 0 where
   pub none : front.has_line ≡ false → (front.buffer ≡ []) × (front.is_ended ≡ true)
   pub next : front.has_line ≡ true → (future : List ℕ) → (front.is_ended ≡ true → future ≡ [])
       → instant_at instant front.place (line_in (front.buffer ++ future)) ≡ front.next
+  pub kind : front.has_line ≡ true → (future : List ℕ) → (front.is_ended ≡ true → future ≡ [])
+      → kind_at instant front.place (line_in (front.buffer ++ future)) ≡ front.kind
 
 -- nothing is left to read, if it was known before
 abbrev pub IsAtEndAfter : Option (List ℕ) → Option (List ℕ) → Type 0
@@ -69,7 +73,7 @@ ReadsOn result old new before after was_pending pending =
     (more : List ℕ) × Reads old new before after more
     × MatchResult result
     (λ _. Sends before.written after.written pending was_pending × IsUnfailed before after
-    × (new.is_ended ≡ false → 0 < length more) × (new.is_ended ≡ true → more ≡ []) × (new.next ≡ old.next))
+    × (new.is_ended ≡ false → 0 < length more) × (new.is_ended ≡ true → more ≡ []) × (new.next ≡ old.next) × (new.kind ≡ old.kind))
     (λ fault. (more ≡ []) × Fails fault before after was_pending more)
 
 -- as many reads as the next line needs
@@ -88,6 +92,7 @@ place_behind front =
       lines = number;
       last = front.next;
       back = option_or front.place.back (if is_before front.next front.place.last then Some number else None);
+      stamps = tally_after front.place.stamps number front.kind;
     }
 
 -- the next line was sent, and its log is at the place after it

@@ -6,7 +6,7 @@ use Rattle.std.specs.Io.KnownBytes.{Appends, Consumes}
 use Rattle.line_devices.specs.Writing.{AppendsBeginning}
 use Rattle.line_merges.specs.Instants.{LogInstants}
 use Rattle.line_merges.specs.Laws.{own_lines}
-use Rattle.line_merges.specs.Lines.{Line, first_back, first_place, log_lines}
+use Rattle.line_merges.specs.Lines.{Line, first_back, first_place, log_lines, stamp_tally}
 use Rattle.line_merges.specs.Logs.{AppendsFront, IsAtEndAfter}
 use Rattle.line_merges.specs.Merges.{IsMerge, merge_text}
 use Rattle.line_merges.specs.declared.logs.Front.{Front}
@@ -53,13 +53,14 @@ IsRead (Some old) (Some new) bytes = Consumes old.left new.left bytes
 abbrev pub AreRead : (ℕ → Option LogState) → (ℕ → Option LogState) → (ℕ → List ℕ) → Type 0
 AreRead old new bytes = (k : ℕ) → IsRead (old k) (new k) (bytes k)
 
--- a log was read to its end, no read of it failed, and its first line that goes back is known
+-- a log was read to its end, no read of it failed, and its first line that goes back and its lines without a stamp are known
 abbrev pub IsDone : LogInstants → Option LogState → Option LogState → List ℕ → Type 0
 IsDone instant None None bytes = ⊤
 IsDone instant None (Some new) bytes = ⊥
 IsDone instant (Some old) None bytes = ⊥
 IsDone instant (Some old) (Some new) bytes =
     IsAtEndAfter old.left new.left × (new.has_failed ≡ false) × (new.front.place.back ≡ first_back (log_lines instant bytes))
+    × (new.front.place.stamps ≡ stamp_tally (log_lines instant bytes))
 
 -- a log has failed, or has not
 abbrev pub HasFailed : Bool → Option LogState → Type 0

@@ -1,11 +1,11 @@
 -- The logs and the writer between two lines of a merge.
 use Rattle.std.specs.Prelude.{◌≡◌, ℕ, ◌+◌, ◌-◌, ◌^◌, ◌&&◌, min, if◌then◌else◌, Bool, true, false, not, List, [], ◌∷◌, ◌++◌, length, Option, Some}
 use Rattle.std.specs.Prelude.{None, Result, Ok, Err}
-use Rattle.std.specs.Option.{option_map, option_or}
+use Rattle.std.specs.Option.{option_map}
 use Rattle.std.specs.Io.KnownBytes.{Consumes}
 use Rattle.line_devices.specs.Writing.{Sends}
 use Rattle.line_merges.specs.Instants.{LogInstants, is_before}
-use Rattle.line_merges.specs.Lines.{Line, first_back, lines_from, log_lines}
+use Rattle.line_merges.specs.Lines.{Line, first_place, lines_from, log_lines, place_after_lines}
 use Rattle.line_merges.specs.Logs.{IsAtEndAfter, IsReady}
 use Rattle.line_merges.specs.Merges.{IsMerge, merge_text}
 use Rattle.line_merges.specs.Runs.{IsCut, LogState, NoneBack, Output}
@@ -40,8 +40,8 @@ pub record IsPassed (instant : LogInstants) (old new : LogState) (passed : List 
   pub consumed : Consumes old.left new.left (passed ++ new.front.buffer)
   pub end : new.front.is_ended ≡ true → IsAtEndAfter old.left new.left
   pub unfailed : new.has_failed ≡ false
-  pub back : (left : List ℕ) → IsLeft (Some new.front) left
-      → first_back (log_lines instant (passed ++ left)) ≡ option_or new.front.place.back (first_back (lines_from instant new.front.place left))
+  pub place : (left : List ℕ) → IsLeft (Some new.front) left → place_after_lines first_place (log_lines instant (passed ++ left))
+      ≡ place_after_lines new.front.place (lines_from instant new.front.place left)
 
 abbrev pub HasPassed : LogInstants → Option LogState → Option LogState → List ℕ → Type 0
 HasPassed instant None None passed = passed ≡ []

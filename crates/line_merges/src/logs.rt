@@ -12,6 +12,7 @@ use crate::instants::{Instants, LONGEST_HEAD, is_before, up_to};
 use line_devices::devices::{DeviceFault, Sink, Source};
 use line_devices::places::place_of;
 use line_devices::sending::{Pending, flush, send};
+use line_devices::stamp_tallies::{LineKind, StampTally, kind_of};
 
 /// The reason why a log was not read on.
 #[derive(Clone, Copy, Debug, PartialEq, Eq)]
@@ -43,6 +44,8 @@ pub struct Place {
     pub last: Option<i128>,
     /// The number of the first of these lines that is earlier than the one before it.
     pub back: Option<u64>,
+    /// How many of these lines have no stamp.
+    pub stamps: StampTally,
 }
 
 /// The front of a log: the bytes that were read and not used yet, and the next line.
@@ -58,6 +61,8 @@ pub struct Front {
     pub has_line: bool,
     /// The instant up to the next line.
     pub next: Option<i128>,
+    /// How the next line counts.
+    pub kind: LineKind,
 }
 
 /// A log: its reader, and its front.
@@ -78,6 +83,7 @@ impl Place {
             lines: 0,
             last: None,
             back: None,
+            stamps: StampTally::new(),
         }
     }
 }
@@ -95,6 +101,7 @@ impl<R: Source> Log<R> {
                 place: Place::first(),
                 has_line: false,
                 next: None,
+                kind: LineKind::Empty,
             },
         }
     }
@@ -205,7 +212,7 @@ fn has_line_feed(bytes: &[u8]) -> bool
     place_of(b'\n', bytes, 0) < bytes.len()
 }
 
-// Finds the next line in the bytes that were read, and its instant.
+// Finds the next line in the bytes that were read, its instant, and how it counts.
 fn look<I: Instants>(instants: &I, log: usize, front: &mut Front)
     requires { IsEnough front.old }
     ensures ready { IsReady (I.instant instants.now log) front.new }
@@ -216,7 +223,9 @@ fn look<I: Instants>(instants: &I, log: usize, front: &mut Front)
     let end = front.buffer.line_end();
     let bytes = front.buffer.bytes();
     let own = instants.instant_of(log, front.place.last, front.place.lines == 0, &bytes[..end]);
+    let kind = kind_of(&bytes[..end], own.is_some());
     let is_empty = bytes.is_empty();
+    front.kind = kind;
     front.has_line = !is_empty;
     front.next = up_to(front.place.last, own);
 }
@@ -259,6 +268,7 @@ fn place_behind(front: &Front) -> Place
         lines: number,
         last: front.next,
         back: front.place.back.or(back_of(front, number)),
+        stamps: front.place.stamps.after(number, front.kind),
     }
 }
 

@@ -46,7 +46,8 @@ impl From<DeviceFault> for MergeFault {
 /// another line follows. Each log keeps one block of bytes.
 ///
 /// If the merge is strict, it ends before the first line that is earlier than the one before it in
-/// its log. Otherwise each log has the number of that line in its place.
+/// its log. Otherwise each log has the number of that line in its place. At the end each log has
+/// there how many of its lines have no stamp.
 pub fn merge<I: Instants, R: Source, W: Sink>(
     instants: &I,
     is_strict: bool,

@@ -16,11 +16,12 @@ use crate::inputs::print_heading;
 use crate::readers::{Reader, line_stamp};
 use crate::sources::{FAILED, Input, clear_progress, say, say_compressed, say_unwritten};
 use crate::style::text_in;
+use crate::tallies::tell_tally;
 use crate::task::Style;
 use calendar_values::{SignedDuration, Text, UtcOffset};
 use line_counts::buckets::{Buckets, steps_between};
 use line_counts::counts::count;
-use line_counts::tallies::CountFault;
+use line_counts::tallies::{CountFault, Tally};
 use line_devices::devices::Device;
 use offset_times::{OffsetDateTime, ToOffset};
 use rfc3339::to_unix_nanos;
@@ -224,9 +225,8 @@ pub fn run(
     is_strict: bool,
     given: Given<'_>,
     words: &[String],
-    files: &[String],
+    names: &[String],
 ) -> u8 {
-    let names = files;
     for name in names {
         if is_compressed(name.as_bytes()) {
             say_compressed(rt, words, given.options, name);
@@ -289,10 +289,15 @@ fn run_input(
     if shows_progress {
         clear_progress(rt);
     }
-    match ended {
-        Ok(None) => {}
-        Ok(Some(line)) | Err(CountFault::Back(line)) => say_line(rt, said, line, Cause::Earlier),
-        Err(CountFault::Missing(line)) => say_line(rt, said, line, Cause::NoInstant),
+    match &ended {
+        Ok(tally) => {
+            if let Some(line) = tally.back {
+                say_line(rt, said, line, Cause::Earlier);
+            }
+            let _ = tell_tally(rt, said, &tally.stamps, given.is_quiet);
+        }
+        Err(CountFault::Back(line)) => say_line(rt, said, *line, Cause::Earlier),
+        Err(CountFault::Missing(line)) => say_line(rt, said, *line, Cause::NoInstant),
         Err(CountFault::Read) => say(rt, said, "read failed"),
         Err(CountFault::Write) => return say_unwritten(rt, said, &writer),
     }
@@ -304,14 +309,13 @@ fn say_line(rt: &HostRuntime, name: &str, line: u64, cause: Cause) {
     say(rt, name, Finding::Line(line, cause).text().as_str());
 }
 
-/// The exit status of a count: 0 at the end of the input, 1 for a line that goes back or has no
-/// bucket, and 2 after a failed read or write.
-fn count_status(ended: &Result<Option<u64>, CountFault>) -> u8
+/// The exit status of a count: 0 at the end of the input, 1 for a line that goes back or ends the
+/// count, and where too many lines have no stamp, and 2 after a failed read or write.
+fn count_status(ended: &Result<Tally, CountFault>) -> u8
     ensures { result ≡ count_status ended.now }
 {
     match ended {
-        Ok(None) => 0,
-        Ok(Some(_)) => 1,
+        Ok(tally) => u8::from(tally.back.is_some() || tally.stamps.is_poor()),
         Err(CountFault::Missing(_) | CountFault::Back(_)) => 1,
         Err(CountFault::Read | CountFault::Write) => 2,
     }

@@ -21,9 +21,8 @@ pub fn run(
     task: &Task,
     given: Given<'_>,
     words: &[String],
-    files: &[String],
+    names: &[String],
 ) -> u8 {
-    let names = files;
     for name in names {
         if is_compressed(name.as_bytes()) {
             say_compressed(rt, words, given.options, name);

@@ -10,6 +10,7 @@ use crate::first_lines::{Given, reader_chosen};
 use crate::instants::StampInstants;
 use crate::readers::Reader;
 use crate::sources::{FAILED, Input, clear_progress, say, say_compressed, say_unwritten};
+use crate::tallies::tell_tally;
 use line_devices::devices::{Device, Source};
 use line_merges::logs::Log;
 use line_merges::merges::{MergeFault, add, merge};
@@ -23,9 +24,8 @@ pub fn run(
     is_strict: bool,
     given: Given<'_>,
     words: &[String],
-    files: &[String],
+    names: &[String],
 ) -> u8 {
-    let names = files;
     for name in names {
         if is_compressed(name.as_bytes()) {
             say_compressed(rt, words, given.options, name);
@@ -71,14 +71,18 @@ pub fn run(
         return say_unwritten(rt, "", &writer);
     }
     report(rt, names, &ended);
-    let mut goes_back = false;
+    let mut is_found = false;
     for (k, log) in logs.iter().enumerate() {
-        if let Some(line) = log.front.place.back {
-            goes_back = true;
-            say_back(rt, name_of(names, k), line);
+        let (name, place) = (name_of(names, k), &log.front.place);
+        if let Some(line) = place.back {
+            is_found = true;
+            say_back(rt, name, line);
+        }
+        if ended.is_ok() {
+            is_found |= tell_tally(rt, name, &place.stamps, given.is_quiet) > 0;
         }
     }
-    merge_status(&ended, goes_back)
+    merge_status(&ended, is_found)
 }
 
 // Adds the log of a reader, and how its stamps are read. Both have the number of the logs before.
@@ -143,13 +147,13 @@ fn say_back(rt: &HostRuntime, name: &str, line: u64) {
     );
 }
 
-/// The exit status of a merge: 0 at the end of all files, 1 for a line that is earlier than the one
-/// before it, whether it ends the merge or not, and 2 after a failed read or write.
-fn merge_status(ended: &Result<(), MergeFault>, goes_back: bool) -> u8
-    ensures { result ≡ merge_status ended.now goes_back }
+/// The exit status of a merge: 0 at the end of all files, 1 where one of them has a finding, or a
+/// line ends the merge that is earlier than the one before it, and 2 after a failed read or write.
+fn merge_status(ended: &Result<(), MergeFault>, is_found: bool) -> u8
+    ensures { result ≡ merge_status ended.now is_found }
 {
     match ended {
-        Ok(()) if goes_back => 1,
+        Ok(()) if is_found => 1,
         Ok(()) => 0,
         Err(MergeFault::Back(_, _)) => 1,
         Err(MergeFault::Read(_) | MergeFault::Write | MergeFault::Endless) => 2,

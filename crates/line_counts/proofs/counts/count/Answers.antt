@@ -27,7 +27,7 @@ returns-then-count-eq0 g c =
     let so_far = c.reads.invariant in
     let none = rw c.if-count-eq0.true at c.in-Ok.ensures.consumed.0 in
     let end = c.in-Ok.ensures.consumed.1 c.if-count-eq0.true (rw c.read_some.auto.buffer so_far.1.block) in
-    finishes (g.B.Buckets.counting c.args.buckets.now) c.args.is_strict _ _ _ c.reads.pending c.reads.work so_far.0 _ c.finish.result so_far.1.goes_on none
+    finishes (g.B.Buckets.counting c.args.buckets.now) c.args.is_strict _ _ _ c.reads.pending c.reads.work so_far.0 c.finish.result so_far.1.goes_on none
     end c.finish.ensures.completes
     c.finish.ensures.ends c.in-Ok.ensures.mark c.finish.ensures.mark
 

@@ -8,3 +8,4 @@ returns-clause-ready g c =
     look_ready (g.I.Instants.instant c.args.instants.now c.args.log) c.args.front.now _ c.line_end-end.result c.bytes-bytes.result.now c.instant_of-own.result
     c.is_empty-is_empty.result (g.met.I.Instants.by_head c.args.instants.now c.args.log) c.requires (c.bytes-bytes.ensures.value ∙ found.same) found.bound
     found.before found.byte_there c.instant_of-own.ensures c.is_empty-is_empty.ensures found.same refl refl refl c.up_to-front.ensures
+    (rw c.is_some.ensures at c.kind_of-kind.ensures)

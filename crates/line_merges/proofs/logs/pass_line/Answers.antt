@@ -14,7 +14,7 @@ pub returns-then-branch : goal.returns-then-branch
 returns-then-branch g c =
     line_ends c.args.front.now c.parts.front _ _ _ _ _ _ _ c.args.pending.now c.parts.pending c.send_part.new.pending c.parts._read c.parts.invariant
     c.parts.front _ (sym c.in_ok-send_part.ensures.feed ∙ c.if-branch.true) c.in_ok-send_part.ensures.sent c.in_ok-send_part.ensures.mark
-    c.in_ok-send_part.ensures.left refl refl refl c.place_behind-front.ensures
+    c.in_ok-send_part.ensures.left refl refl refl refl c.place_behind-front.ensures
 
 pub read_on-requires : goal.read_on-requires
 read_on-requires g c =
@@ -31,14 +31,14 @@ pub returns-then-front : goal.returns-then-front
 returns-then-front g c =
     line_over c.args.front.now c.parts.front _ _ _ _ _ _ _ c.args.pending.now c.parts.pending c.send_part.new.pending c.parts._read c.parts.invariant
     _ c.read_on.new.front _ c.read_on.new.pending (sym c.in_ok-send_part.ensures.feed ∙ c.if-branch.false) c.in_ok-send_part.ensures.sent
-    c.in_ok-send_part.ensures.mark c.in_ok-send_part.ensures.left refl refl c.in_ok-read_on.ensures refl _ c.if-front.true refl refl
+    c.in_ok-send_part.ensures.mark c.in_ok-send_part.ensures.left refl refl c.in_ok-read_on.ensures refl refl _ c.if-front.true refl refl
     c.place_behind-front-then-front.ensures
 
 pub parts-preserved : goal.parts-preserved
 parts-preserved g c =
     next_part c.args.front.now c.parts.front _ _ _ _ _ _ _ c.args.pending.now c.parts.pending c.send_part.new.pending c.parts._read c.parts.invariant
     _ c.read_on.new.front _ c.read_on.new.pending (sym c.in_ok-send_part.ensures.feed ∙ c.if-branch.false) c.in_ok-send_part.ensures.sent
-    c.in_ok-send_part.ensures.mark c.in_ok-send_part.ensures.left refl refl c.in_ok-read_on.ensures refl c.if-front.false
+    c.in_ok-send_part.ensures.mark c.in_ok-send_part.ensures.left refl refl c.in_ok-read_on.ensures refl refl c.if-front.false
 
 pub returns-in_err-flush : goal.returns-in_err-flush
 returns-in_err-flush g c =

@@ -18,4 +18,4 @@ returns-in-Err g c =
 pub returns-in-Ok : goal.returns-in-Ok
 returns-in-Ok g c =
     read_some c.args.front.now _ c.in-Ok.count _ _ _ _ _ _ _ _ c.args.pending.now c.flush.new.pending c.if-front.false c.in-Ok.ensures.0 refl refl
-    c.in_ok-flush.ensures.written c.in_ok-flush.ensures.empty c.in-Ok.ensures.1 c.in_ok-flush.ensures.mark refl
+    c.in_ok-flush.ensures.written c.in_ok-flush.ensures.empty c.in-Ok.ensures.1 c.in_ok-flush.ensures.mark refl refl
