@@ -368,8 +368,12 @@ def options_of(name, place):
 
 def stamps_of(reader, lines):
     """The stamps that a reader finds in lines. Those that are counts without a fraction are none where they are far from now, unless
-    the place has a name."""
-    found = [stamp for stamp in map(Reader(*reader).stamp_of, lines) if isinstance(stamp, tuple)]
+    the place has a name. Those that end with digits behind a comma are none where they have not as many."""
+    pairs = [(Reader(*reader).stamp_of(line), line) for line in lines]
+    found = [stamp for stamp, _ in pairs if isinstance(stamp, tuple)]
+    texts = [line[stamp[2] : stamp[1]].rpartition(b",") for stamp, line in pairs if isinstance(stamp, tuple)]
+    if len({len(digits) for _, comma, digits in texts if comma and digits.isdigit()}) > 1:
+        return [], True
     digits, _ = DIGITS.get(reader[0], (0, 0))
     if reader[1] in NAMED or all(end - start > digits for _, end, start in found):
         return found, True

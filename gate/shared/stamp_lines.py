@@ -10,10 +10,12 @@ from datetime import datetime, timedelta
 from itertools import groupby
 
 # The form of a stamp, which nothing that belongs to a date-time follows.
-FORM = re.compile(rb"(\d{4})-(\d\d)-(\d\d)[Tt ](\d\d):(\d\d):(\d\d)(?:\.(\d+))?(?:([Zz])|([+-])(\d\d):(\d\d))(?![0-9A-Za-z:.+-])")
+FORM = re.compile(
+    rb"(\d{4})-(\d\d)-(\d\d)[Tt ](\d\d):(\d\d):(\d\d)(?:\.(\d+))?(?:([Zz])|([+-])(\d\d):(\d\d))(?![0-9A-Za-z+-]|[.:][0-9A-Za-z])"
+)
 
 # The most bytes of a stamp.
-LONGEST = 1_023
+LONGEST = 1_022
 
 # The byte order mark of UTF-8.
 MARK = codecs.BOM_UTF8
@@ -382,6 +384,9 @@ ODD = (
     b"2024-06-30T12:00:00+05:3099 an offset with more digits",
     b"2024-06-30T12:00:00Z-1",
     b"2024-06-30T12:00:00Z.5",
+    b"2024-06-30T12:00:00Z:5",
+    b"2024-06-30T12:00:00Z: a colon",
+    b"2024-06-30T12:00:00+05:30.",
     b"2024-06-30T12:00:00+05:30+05:30",
     b"2024-06-30T12:00:00Z, and a comma",
     b"2024-06-30T12:00:00Z[UTC] and a zone",
@@ -414,7 +419,7 @@ def lines_of(seed, count, is_ordered=False):
         if kind > 0.9995 and not is_ordered:
             lines[-1] += b" long" * rng.choice((195, 200, 300, 20_000))
         if kind < 0.0003 and not is_ordered:
-            lines[-1] = b"2024-06-30T12:00:00." + b"1" * rng.choice((1_002, 1_003, 1_004, 2_000)) + b"Z long stamp"
+            lines[-1] = b"2024-06-30T12:00:00." + b"1" * rng.choice((1_001, 1_002, 1_003, 2_000)) + b"Z long stamp"
     return b"\n".join(lines) + (b"\n" if seed % 2 == 0 else b"")
 
 

@@ -1,7 +1,9 @@
 -- The choice of a form and a place by the first lines of a log.
 use Rattle.std.specs.Prelude.{ℕ, zero, suc, ◌+◌, ◌/◌, ◌%◌, ◌==◌, nat_lt, nat_le, ◌&&◌, ◌||◌, Bool, false, true, not, List, [], ◌∷◌, codes, if◌then◌else◌}
 use Rattle.std.specs.Prelude.{ℤ, pos, ◌+ℤ◌, int_le, int_lt, Option, Some, None, Result, Ok, Err}
-use Rattle.std.specs.Prelude.{slice_index_or}
+use Rattle.std.specs.Prelude.{drop, length, slice_index_or, take}
+use Rattle.std.specs.Char.{is_ascii_digit}
+use Rattle.std.specs.List.{list_all}
 use Rattle.log_forms.specs.Forms.{form_named}
 use Rattle.log_forms.specs.Stamps.{stamp_at}
 use Rattle.log_forms.specs.declared.form.Form.{Form}
@@ -156,10 +158,48 @@ steady_in form place key assumed span (line ∷ lines) =
 unfoldable pub steady_by : ℕ → List (List ℕ) → Bool
 steady_by reader lines = steady_in (form_named (reader_form reader)) (reader_place reader) (reader_key reader) some_year None lines
 
--- how many lines choose a reader: those in which it finds a stamp. Bare counts choose it if there are two, and they grow slowly
+-- the number of digits behind a comma at the end of a text, if it ends so
+unfoldable pub digits_behind_comma : List ℕ → Option ℕ
+digits_behind_comma [] = None
+digits_behind_comma (first ∷ more) = if (first == 44) && list_all is_ascii_digit more then Some (length more) else digits_behind_comma more
+
+-- whether two numbers of digits are the same, if there are two
+abbrev pub is_even : Option ℕ → Option ℕ → Bool
+is_even (Some digits) (Some own) = digits == own
+is_even (Some digits) None = true
+is_even None own = true
+
+-- the first of two numbers that there is
+abbrev pub first_known : Option ℕ → Option ℕ → Option ℕ
+first_known (Some digits) own = Some digits
+first_known None own = own
+
+-- the text of a stamp in its line
+abbrev pub text_of : Stamp → List ℕ → List ℕ
+text_of stamp line = take stamp.length (drop stamp.start line)
+
+-- whether a stamp has as many digits behind a comma as those before, and the others have so too
+abbrev pub even_after : Option ℕ → List ℕ → Result Stamp StampRefusal → (Option ℕ → Bool) → Bool
+even_after digits line (Ok stamp) others =
+    let own = digits_behind_comma (text_of stamp line) in is_even digits own && others (first_known digits own)
+even_after digits line (Err refusal) others = others digits
+
+-- whether the stamps of lines that end with digits behind a comma have as many as those before
+unfoldable pub even_in : Form → Place → List ℕ → Assumed → Option ℕ → List (List ℕ) → Bool
+even_in form place key assumed digits [] = true
+even_in form place key assumed digits (line ∷ lines) =
+    even_after digits line (stamp_at form place key assumed line) (λ more. even_in form place key assumed more lines)
+
+-- whether the stamps of a reader do
+unfoldable pub even_by : ℕ → List (List ℕ) → Bool
+even_by reader lines = even_in (form_named (reader_form reader)) (reader_place reader) (reader_key reader) some_year None lines
+
+-- how many lines choose a reader: those in which it finds a stamp. Bare counts choose it if there are two, and they grow slowly. Digits
+-- behind a comma choose it if each line has as many
 abbrev pub count_read : ℕ → List (List ℕ) → ℕ
 count_read reader lines =
-    if (found_by reader lines == 0) || is_sure reader lines || (nat_le 2 (found_by reader lines) && steady_by reader lines)
+    if (found_by reader lines == 0)
+    || ((is_sure reader lines || (nat_le 2 (found_by reader lines) && steady_by reader lines)) && even_by reader lines)
     then found_by reader lines else 0
 
 -- whether a reader finds a stamp in a line, which is no count that is far from now

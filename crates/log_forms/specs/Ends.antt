@@ -7,10 +7,6 @@ use Rattle.log_forms.specs.Instants.{has_count, is_whole, lacks_year}
 use Rattle.log_forms.specs.Marks.{is_blank, past_blanks}
 use Rattle.log_forms.specs.declared.zone_words.TheConstants.{YEARS, ZONES}
 
--- whether a byte could continue a date-time of RFC 3339: a digit, a letter, or one of `+`, `-`, `.`, `:`
-abbrev pub continues : ℕ → Bool
-continues byte = is_ascii_alphanumeric byte || (byte == 43) || (byte == 45) || (byte == 46) || (byte == 58)
-
 -- whether a text begins with a letter
 abbrev pub begins_letter : List ℕ → Bool
 begins_letter [] = false

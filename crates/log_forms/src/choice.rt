@@ -1,18 +1,25 @@
 //! The choice of a form and a place by the first lines of a log.
-ghost use Rattle.std.specs.Prelude.{◌≡◌, ◌≤◌, pos, ◌+ℤ◌, IsTrue, length, map};
+ghost use Rattle.std.specs.Prelude.{◌≡◌, ◌≤◌, ◌<◌, ◌*◌, ◌+◌, ◌||◌, pos, ◌+ℤ◌, IsTrue, drop, is_some, length, map, take};
 ghost use Rattle.log_forms.specs.Choices.{any_reads, best_of, better_of, choice_of, count_in, count_read, is_read_by_any, most};
+ghost use Rattle.std.specs.Char.{is_ascii_digit};
+ghost use Rattle.std.specs.List.{list_all};
+ghost use Rattle.log_forms.specs.Choices.{digits_behind_comma, even_by, even_in, first_known, is_even, text_of};
 ghost use Rattle.log_forms.specs.Choices.{found_by, is_bare, is_bare_at, is_count, is_near, is_next, is_sure, names_counts, no_bare_in};
 ghost use Rattle.log_forms.specs.Choices.{reader_form, reader_key, reader_place, reads, some_year, span_with, steady_by, steady_in};
+ghost use Rattle.log_forms.specs.Places.{text_at};
 
 use crate::form::{Form, named_form};
 use crate::instants::Assumed;
 use crate::names::{CHOSEN, FORMS, FormName};
-use crate::places::Place;
-use crate::stamps::stamp_at;
+use crate::places::{Place, text_at};
+use crate::stamps::{Stamp, front_of, stamp_at};
 use calendar_values::UtcOffset;
 
 /// The number of the readers among which one is chosen: 42 forms at 36 places.
 pub const READERS: usize = 1512;
+
+// The number of their places.
+const PLACES: usize = 36;
 
 /// The form of a reader, by its number: all forms that are chosen at the front, then at the next
 /// place.
@@ -91,7 +98,8 @@ fn names_counts(reader: usize) -> bool
 /// first one that finds a stamp in both of the first two lines, if there is one. Otherwise it is
 /// the one that finds a stamp in the most lines, and the first of these. None if no reader finds a
 /// stamp. A reader of counts without a fraction, to which no name leads, needs two of them that
-/// grow by less than 366 days.
+/// grow by less than 366 days. Stamps that end with digits after a comma choose a reader if each
+/// has as many.
 pub fn choose(lines: &[&[u8]]) -> Option<usize>
     ensures choice { result ≡ choice_of (map (λ line. line.now) lines.now) }
 {
@@ -113,18 +121,45 @@ pub fn choose(lines: &[&[u8]]) -> Option<usize>
 pub fn is_read_by_any(line: &[u8]) -> bool
     ensures { result ≡ is_read_by_any line.now }
 {
-    any_reads(READERS, line)
+    any_at_places(PLACES, line)
 }
 
-// Whether one of the first readers finds a stamp in a line.
-#[tactic(auto, using(crate::proofs::ChoiceLemmas::any_next))]
-fn any_reads(readers: usize, line: &[u8]) -> bool
-    ensures { result ≡ any_reads readers line.now }
+// Whether a reader at one of the first places finds a stamp in a line. Where the line lacks the place, no form is tried there.
+fn any_at_places(places: usize, line: &[u8]) -> bool
+    requires { places ≤ 36 }
+    ensures { result ≡ any_reads (places * 42) line.now }
 {
-    if readers == 0 {
+    if places == 0 {
         return false;
     }
-    any_reads(readers - 1, line) || reads(readers - 1, line)
+    any_at_places(places - 1, line)
+        || (has_place((places - 1) * CHOSEN, line) && any_at(places - 1, CHOSEN, line))
+}
+
+// Whether a line has the place of a reader.
+fn has_place(reader: usize, line: &[u8]) -> bool
+    ensures { result
+        ≡ is_some (text_at (reader_place reader) (reader_key reader) (take 1024 line.now)) }
+{
+    text_at(
+        reader_place(reader),
+        reader_key(reader).as_bytes(),
+        front_of(line),
+    )
+    .is_some()
+}
+
+// Whether one of the first forms finds a stamp in a line at a place, by its number.
+fn any_at(place: usize, forms: usize, line: &[u8]) -> bool
+    requires place { place < 36 }
+    requires forms { forms ≤ 42 }
+    ensures { any_reads (place * 42 + forms) line.now
+        ≡ (any_reads (place * 42) line.now || result) }
+{
+    if forms == 0 {
+        return false;
+    }
+    any_at(place, forms - 1, line) || reads(place * CHOSEN + (forms - 1), line)
 }
 
 // Whether a reader finds a stamp in a line, which is no count that is far from now.
@@ -166,14 +201,103 @@ fn better_of(before: (usize, usize), reader: usize, count: usize) -> (usize, usi
 }
 
 // How many lines choose a reader: those in which it finds a stamp. Bare counts choose it if they are two, and grow slowly.
+// Digits behind a comma choose it if each line has as many.
 fn count_read(reader: usize, lines: &[&[u8]]) -> usize
     ensures { result ≡ count_read reader (map (λ line. line.now) lines.now) }
 {
     let count = found_by(reader, lines);
-    if count == 0 || is_sure(reader, lines) || (count >= 2 && steady_by(reader, lines)) {
+    if count == 0
+        || ((is_sure(reader, lines) || (count >= 2 && steady_by(reader, lines)))
+            && even_by(reader, lines))
+    {
         count
     } else {
         0
+    }
+}
+
+// Whether the stamps of a reader that end with digits behind a comma have as many.
+#[tactic(auto, unfolding(crate::specs::Choices::even_by))]
+fn even_by(reader: usize, lines: &[&[u8]]) -> bool
+    ensures { result ≡ even_by reader (map (λ line. line.now) lines.now) }
+{
+    let form = named_form(reader_form(reader));
+    let key = reader_key(reader).as_bytes();
+    even_in(&form, reader_place(reader), key, &some_year(), None, lines)
+}
+
+// Whether the stamps of a form that end with digits behind a comma have as many as those before, if there are such.
+#[tactic(auto, unfolding(crate::specs::Choices::even_in))]
+fn even_in(
+    form: &Form,
+    place: Place,
+    key: &[u8],
+    assumed: &Assumed,
+    digits: Option<usize>,
+    lines: &[&[u8]],
+) -> bool
+    ensures { result ≡ even_in form.now place key.now assumed.now digits
+        (map (λ line. line.now) lines.now) }
+{
+    let Some((line, rest)) = lines.split_first() else {
+        return true;
+    };
+    match stamp_at(form, place, key, assumed, line) {
+        Ok(stamp) => {
+            let own = digits_behind_comma(text_of(&stamp, line));
+            is_even(digits, own)
+                && even_in(form, place, key, assumed, first_known(digits, own), rest)
+        }
+        Err(_) => even_in(form, place, key, assumed, digits, rest),
+    }
+}
+
+// The text of a stamp in its line.
+fn text_of<'a>(stamp: &Stamp, line: &'a [u8]) -> &'a [u8]
+    requires { stamp.now.start + stamp.now.length ≤ length line.now }
+    ensures { result.now ≡ text_of stamp.now line.now }
+{
+    &line[stamp.start..][..stamp.length]
+}
+
+// The number of digits behind a comma at the end of a text, if it ends so.
+#[tactic(auto, unfolding(crate::specs::Choices::digits_behind_comma))]
+fn digits_behind_comma(text: &[u8]) -> Option<usize>
+    ensures { result ≡ digits_behind_comma text.now }
+{
+    let Some((first, more)) = text.split_first() else {
+        return None;
+    };
+    if *first == b',' && are_digits(more) {
+        return Some(more.len());
+    }
+    digits_behind_comma(more)
+}
+
+// Whether each byte of a text is a digit.
+fn are_digits(text: &[u8]) -> bool
+    ensures { result ≡ list_all is_ascii_digit text.now }
+{
+    text.iter().all(|byte| byte.is_ascii_digit())
+}
+
+// Whether two numbers of digits are the same, if there are two.
+fn is_even(digits: Option<usize>, own: Option<usize>) -> bool
+    ensures { result ≡ is_even digits own }
+{
+    match (digits, own) {
+        (Some(digits), Some(own)) => digits == own,
+        _ => true,
+    }
+}
+
+// The first of two numbers that there is.
+fn first_known(digits: Option<usize>, own: Option<usize>) -> Option<usize>
+    ensures { result ≡ first_known digits own }
+{
+    match digits {
+        Some(digits) => Some(digits),
+        None => own,
     }
 }
 

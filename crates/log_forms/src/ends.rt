@@ -2,7 +2,7 @@
 ghost use Rattle.std.specs.Prelude.{◌≡◌, ◌≤◌, length};
 ghost use Rattle.log_forms.specs.Ends.{begins_alphanumeric, begins_column, begins_comma, begins_fraction, begins_letter, begins_mark};
 ghost use Rattle.log_forms.specs.Ends.{begins_text, begins_year};
-ghost use Rattle.log_forms.specs.Ends.{begins_zone, continues, ends_behind_comma, is_apart, is_fraction, is_joint, is_spelled};
+ghost use Rattle.log_forms.specs.Ends.{begins_zone, ends_behind_comma, is_apart, is_fraction, is_joint, is_spelled};
 ghost use Rattle.log_forms.specs.Ends.{leaves_fraction, leaves_out, leaves_year, opens_bracket, past_bracket, runs_on, spells};
 
 use crate::instants::{has_count, is_whole, lacks_year};
@@ -39,15 +39,6 @@ pub fn runs_on(is_count: bool, rest: &[u8]) -> bool
     }
 }
 
-/// Whether a byte after a date-time of RFC 3339 continues it: a digit, a letter, or one of `+`,
-/// `-`, `.` and `:`.
-#[inline(always)]
-pub fn continues(byte: u8) -> bool
-    ensures { result ≡ continues byte }
-{
-    byte.is_ascii_alphanumeric() || byte == b'+' || byte == b'-' || byte == b'.' || byte == b':'
-}
-
 // Whether a byte joins two parts of a word.
 fn is_joint(is_count: bool, byte: u8) -> bool
     ensures { result ≡ is_joint is_count byte }
@@ -55,8 +46,9 @@ fn is_joint(is_count: bool, byte: u8) -> bool
     byte == b'.' || (byte == b':' && !is_count)
 }
 
-// Whether a bracket opens a text.
-pub(crate) fn opens_bracket(rest: &[u8]) -> bool
+/// Whether a bracket opens a text.
+#[inline(always)]
+pub fn opens_bracket(rest: &[u8]) -> bool
     ensures { result ≡ opens_bracket rest.now }
 {
     match rest.split_first() {

@@ -19,7 +19,7 @@ mod years;
 mod zone_words;
 
 pub use choice::{READERS, choose, is_read_by_any, reader_form, reader_key, reader_place};
-pub use ends::{continues, runs_on};
+pub use ends::{opens_bracket, runs_on};
 pub use field_names::field_name;
 pub use form::{Form, Items, MOST_ITEMS, named_form, own_form};
 pub use instants::Assumed;

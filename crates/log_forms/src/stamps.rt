@@ -70,7 +70,7 @@ pub fn stamp_at(
 
 // As many bytes of a line as decide on its stamp.
 #[tactic(auto, using(crate::proofs::FrontLemmas::fronts))]
-fn front_of(line: &[u8]) -> &[u8]
+pub(crate) fn front_of(line: &[u8]) -> &[u8]
     ensures value { result.now ≡ take 1024 line.now }
     ensures short { length result.now ≤ 1_024 }
     ensures shorter { length result.now ≤ length line.now }

@@ -189,3 +189,26 @@ fn more_places(rt: HostRuntime) {
         "[",
     );
 }
+
+#[test]
+fn digits_behind_a_comma(rt: HostRuntime) {
+    let alike: [&[u8]; 2] = [b"2024-02-29 12:00:00,200 a", b"2024-02-29 12:00:01,404 b"];
+    is_chosen(&rt, &alike, FormName::LocalComma, Place::Front, "");
+    let unlike: [&[u8]; 2] = [
+        b"2024-02-29 12:00:00,200 a",
+        b"2024-02-29 12:00:01,404000 b",
+    ];
+    assert_eq!(rt; choose(&unlike), None);
+    let with_offsets: [&[u8]; 2] = [
+        b"2024-02-29 12:00:00,5 +0530 a",
+        b"2024-02-29 12:00:01,25 +0530 b",
+    ];
+    is_chosen(&rt, &with_offsets, FormName::Git, Place::Front, "");
+}
+
+#[test]
+fn lines_without_places(rt: HostRuntime) {
+    assert_eq!(rt; is_read_by_any(b"{\"a\":1,\"time\":1709188200123}"), true);
+    assert_eq!(rt; is_read_by_any(b"a b 2024-02-29 12:00:00"), true);
+    assert_eq!(rt; is_read_by_any(b"call 12 of 300 at 9 took 15:30"), false);
+}

@@ -1,6 +1,6 @@
 //! Where a stamp ends: an offset or a word for a zone that a form does not read is never left out.
 use super::{is_absent, is_read};
-use log_forms::{FormName, continues, runs_on};
+use log_forms::{FormName, opens_bracket, runs_on};
 use std::process::Abort;
 
 // 2024-02-29T12:00:00 one hour ahead of UTC.
@@ -183,10 +183,8 @@ fn halves_of_the_day(rt: HostRuntime) {
 
 #[test]
 fn bytes_that_continue(rt: HostRuntime) {
-    assert_eq!(rt; continues(b'Z'), true);
-    assert_eq!(rt; continues(b':'), true);
-    assert_eq!(rt; continues(b' '), false);
-    assert_eq!(rt; continues(b'['), false);
+    assert_eq!(rt; opens_bracket(b"[UTC]"), true);
+    assert_eq!(rt; opens_bracket(b" [UTC]"), false);
     assert_eq!(rt; runs_on(false, b"Z"), true);
     assert_eq!(rt; runs_on(false, b":5"), true);
     assert_eq!(rt; runs_on(true, b":5"), false);

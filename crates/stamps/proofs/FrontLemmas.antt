@@ -1,7 +1,6 @@
 -- A front that was read, and where the date-time in it ends.
-use Rattle.std.proofs.Common.{◌≡◌, ◌≢◌, refl, sym, ap, subst, ◌∙◌, ℕ, ◌+◌, ◌-◌, ◌≤◌, Bool, true, false, cond, List, [], ◌++◌, take, length, length-append}
+use Rattle.std.proofs.Common.{◌≡◌, ◌≢◌, refl, sym, ap, subst, ◌∙◌, ℕ, ◌+◌, ◌-◌, ◌≤◌, Bool, true, false, cond, List, [], ◌++◌, take, drop, length, length-append}
 use Rattle.std.proofs.Common.{append_assoc, ℤ, Option, Some, None, Result, Ok, Err, arith}
-use Rattle.std.specs.Prelude.{slice_get}
 use Rattle.std.specs.Result.{result_map_both}
 use Rattle.std.proofs.Math.Seq.{take-append-add, take-append_seam}
 use Rattle.std.proofs.lemmas.List.{append-nil, length-take}
@@ -28,14 +27,14 @@ counted count at = (at, count)
 
 accepted_at : (front : List ℕ) (count : ℕ) (m : Result Local TextRefusal) (read : Local × ℕ)
     → result_map_both (counted count) (λ refusal. refusal) m ≡ Ok read
-    → ended_stamp m count (slice_get front count) ≡ ended_stamp (Ok read.0) read.1 (slice_get front read.1)
+    → ended_stamp m count (drop count front) ≡ ended_stamp (Ok read.0) read.1 (drop read.1 front)
 accepted_at front count (Ok x) read e =
     let same : counted count x ≡ read = cc in
-    ap (λ (z : Local × ℕ). ended_stamp (Ok z.0) z.1 (slice_get front z.1)) same
+    ap (λ (z : Local × ℕ). ended_stamp (Ok z.0) z.1 (drop z.1 front)) same
 accepted_at front count (Err refusal) read e = absurd cc
 
 pub front_accepted : (front : List ℕ) (o : Option (Parts × List ℕ)) (read : Local × ℕ) → front_meaning front o ≡ Ok read
-    → front_stamp front o ≡ ended_stamp (Ok read.0) read.1 (slice_get front read.1)
+    → front_stamp front o ≡ ended_stamp (Ok read.0) read.1 (drop read.1 front)
 front_accepted front None read e = absurd cc
 front_accepted front (Some taken) read e = accepted_at front (length front - length taken.1) (meaning taken.0) read e
 
@@ -45,14 +44,14 @@ either_instant : (it_ends : Bool) (before : ℕ) (s : Stamp)
 either_instant true before s = refl
 either_instant false before s = refl
 
-ended_instant : (before : ℕ) (at : Local) (count : ℕ) (next : Option ℕ)
+ended_instant : (before : ℕ) (at : Local) (count : ℕ) (next : List ℕ)
     → cond (ends count next) (Some (instant_of at)) None ≡ stamp_instant (plain_at before (ended_stamp (Ok at) count next))
 ended_instant before at count next = either_instant (ends count next) before (stamp (instant_of at) count next)
 
 pub front_instant : (before : ℕ) (front : List ℕ) (o : Option (Parts × List ℕ)) (read : Local × ℕ) (r : Option ℤ) → front_meaning front o ≡ Ok read
-    → r ≡ cond (ends read.1 (slice_get front read.1)) (Some (instant_of read.0)) None → r ≡ stamp_instant (plain_at before (front_stamp front o))
+    → r ≡ cond (ends read.1 (drop read.1 front)) (Some (instant_of read.0)) None → r ≡ stamp_instant (plain_at before (front_stamp front o))
 front_instant before front o read r e h =
-    h ∙ ended_instant before read.0 read.1 (slice_get front read.1)
+    h ∙ ended_instant before read.0 read.1 (drop read.1 front)
     ∙ ap (λ (z : Result Stamp TextRefusal). stamp_instant (plain_at before z)) (sym (front_accepted front o read e))
 
 -- ---- no date-time
@@ -62,10 +61,10 @@ either_syntax true = refl
 either_syntax false = refl
 
 syntax_at : (front : List ℕ) (count : ℕ) (m : Result Local TextRefusal) → result_map_both (counted count) (λ refusal. refusal) m ≡ Err Syntax
-    → ended_stamp m count (slice_get front count) ≡ Err Syntax
+    → ended_stamp m count (drop count front) ≡ Err Syntax
 syntax_at front count (Ok x) e = absurd cc
 syntax_at front count (Err refusal) e =
-    let is : refusal ≡ Syntax = cc in rw is (either_syntax (ends count (slice_get front count)))
+    let is : refusal ≡ Syntax = cc in rw is (either_syntax (ends count (drop count front)))
 
 pub front_syntax : (front : List ℕ) (o : Option (Parts × List ℕ)) → front_meaning front o ≡ Err Syntax → front_stamp front o ≡ Err Syntax
 front_syntax front None e = refl
@@ -77,7 +76,7 @@ either_none true before Syntax = refl
 either_none true before (OutOfRange component) = refl
 either_none false before r = refl
 
-none_at : (before count : ℕ) (m : Result Local TextRefusal) (refusal : TextRefusal) (next : Option ℕ)
+none_at : (before count : ℕ) (m : Result Local TextRefusal) (refusal : TextRefusal) (next : List ℕ)
     → result_map_both (counted count) (λ refusal. refusal) m ≡ Err refusal → None ≡ stamp_instant (plain_at before (ended_stamp m count next))
 none_at before count (Ok x) refusal next e = absurd cc
 none_at before count (Err r) refusal next e = either_none (ends count next) before r
@@ -86,11 +85,11 @@ pub front_none : (before : ℕ) (front : List ℕ) (o : Option (Parts × List �
     → None ≡ stamp_instant (plain_at before (front_stamp front o))
 front_none before front None refusal e = refl
 front_none before front (Some read) refusal e =
-    let count = length front - length read.1 in none_at before count (meaning read.0) refusal (slice_get front count) e
+    let count = length front - length read.1 in none_at before count (meaning read.0) refusal (drop count front) e
 
 -- ---- a date-time that is refused
 
-refused_at : (count : ℕ) (m : Result Local TextRefusal) (refusal : TextRefusal) (next : Option ℕ)
+refused_at : (count : ℕ) (m : Result Local TextRefusal) (refusal : TextRefusal) (next : List ℕ)
     → result_map_both (counted count) (λ refusal. refusal) m ≡ Err refusal → ended_stamp m count next ≡ ended_stamp (Err refusal) count next
 refused_at count (Ok x) refusal next e = absurd cc
 refused_at count (Err r) refusal next e =
@@ -128,17 +127,17 @@ pub front_refused : (front : List ℕ) (o : Option (Parts × List ℕ)) (refusal
     → front_meaning front o ≡ Err refusal → refusal ≢ Syntax → place ≤ length front
     → (more : List ℕ) × (q : Parts) × IsDateTime (take place front ++ more) q
     → ((n : ℕ) (more : List ℕ) (q : Parts) → n ≤ length front → IsDateTime (take n front ++ more) q → n ≤ place)
-    → front_stamp front o ≡ ended_stamp (Err refusal) place (slice_get front place)
+    → front_stamp front o ≡ ended_stamp (Err refusal) place (drop place front)
 front_refused front None refusal place e h other within begins longest =
     let is : refusal ≡ Syntax = cc in absurd (other is)
 front_refused front (Some read) refusal place e h other within begins longest =
     let count = length front - length read.1 in
-    refused_at count (meaning read.0) refusal (slice_get front count) h
-    ∙ ap (λ (z : ℕ). ended_stamp (Err refusal) z (slice_get front z)) (place_of_end front read.1 read.0 place e within begins longest)
+    refused_at count (meaning read.0) refusal (drop count front) h
+    ∙ ap (λ (z : ℕ). ended_stamp (Err refusal) z (drop z front)) (place_of_end front read.1 read.0 place e within begins longest)
 
 -- where it ends there, and where not
-pub refusal_at : (refusal : TextRefusal) (count : ℕ) (next : Option ℕ) → ends count next ≡ true → ended_stamp (Err refusal) count next ≡ Err refusal
+pub refusal_at : (refusal : TextRefusal) (count : ℕ) (next : List ℕ) → ends count next ≡ true → ended_stamp (Err refusal) count next ≡ Err refusal
 refusal_at refusal count next e = rw e refl
 
-pub no_refusal_at : (refusal : TextRefusal) (count : ℕ) (next : Option ℕ) → ends count next ≡ false → ended_stamp (Err refusal) count next ≡ Err Syntax
+pub no_refusal_at : (refusal : TextRefusal) (count : ℕ) (next : List ℕ) → ends count next ≡ false → ended_stamp (Err refusal) count next ≡ Err Syntax
 no_refusal_at refusal count next e = rw e refl

@@ -110,7 +110,7 @@ Within Skip line = ⊤
 Within (Tell note) line = ⊤
 Within (Stop found) line = ⊤
 
-ended_within : (it_ends : Bool) (m : Result Local TextRefusal) (count most : ℕ) (next : Option ℕ) → count ≤ most
+ended_within : (it_ends : Bool) (m : Result Local TextRefusal) (count most : ℕ) (next : List ℕ) → count ≤ most
     → StampWithin (cond it_ends (result_map_both (λ at. stamp (instant_of at) count next) (λ refusal. refusal) m) (Err Syntax)) most
 ended_within false m count most next h = tt
 ended_within true (Ok at) count most next h = h
@@ -120,7 +120,7 @@ front_within : (front : List ℕ) (o : Option (Parts × List ℕ)) (most : ℕ) 
 front_within front None most h = tt
 front_within front (Some read) most h =
     let count = length front - length read.1 in
-    let next = slice_get front count in
+    let next = drop count front in
     ended_within (ends count next) (meaning read.0) count most next (omega (arith, h))
 
 stamp_within : (text : List ℕ) → StampWithin (stamp_of text) (length text)

@@ -3,7 +3,6 @@ use Rattle.std.proofs.Common.{◌≡◌, refl, ap, sym, ◌∙◌, ℕ, ◌+◌,
 use Rattle.std.proofs.Common.{[], ◌∷◌, Ordering, Less, Equal, Greater, nat_cmp, int_cmp}
 use Rattle.std.specs.Cmp.Lexicographic.{slice_cmp}
 use Rattle.std.specs.Ordering.{ordering_then}
-use Rattle.std.specs.Prelude.{slice_get}
 use Rattle.std.proofs.Math.Seq.{drop-append_seam}
 use Rattle.calendar_values.specs.Calendar.{year_of}
 use Rattle.calendar_values.specs.WallClock.{wall_day}
@@ -15,7 +14,8 @@ use Rattle.rfc3339.specs.ValueLemmas.{IsDateTime-fixed, meaning-fixed, length-fi
 use Rattle.rfc3339.specs.declared.refusal.TextRefusal.{TextRefusal}
 use Rattle.rfc3339.specs.declared.refusal.TextRefusal.TheVariants.{Syntax, OutOfRange}
 use Rattle.stamps.specs.Laws.{HasStamp, in_utc, line_written}
-use Rattle.stamps.specs.LineStamps.{opens_bracket, stamp, stamp_of}
+use Rattle.log_forms.specs.Ends.{opens_bracket}
+use Rattle.stamps.specs.LineStamps.{stamp, stamp_of}
 use Rattle.stamps.specs.Styles.{text_in, has_four_digits}
 use Rattle.stamps.specs.declared.decide.Stamp.{Stamp}
 use Rattle.stamps.specs.declared.readers.Reader.TheVariants.{Plain}
@@ -39,8 +39,8 @@ fixed_of i text e = fixed_if i (has_four_digits (year_of (wall_day i))) text ref
 behind_stamp : (line : List ℕ) (s : Stamp) (h : HasStamp line s) → drop s.length line ≡ h.rest
 behind_stamp line s h = ap (drop s.length) h.split ∙ ap (λ (n : ℕ). drop n (h.spelled ++ h.rest)) h.count ∙ drop-append_seam h.spelled h.rest
 
-utc_is : (s : Stamp) (i : ℤ) (n : ℕ) (next : Option ℕ) → i ≡ s.instant → n ≡ 30 → s.is_zoned ≡ opens_bracket next → stamp i n next ≡ in_utc s
-utc_is s i n next a b c = rw (a, b, ← c) refl
+utc_is : (s : Stamp) (i : ℤ) (n : ℕ) (rest : List ℕ) → i ≡ s.instant → n ≡ 30 → s.is_zoned ≡ opens_bracket rest → stamp i n rest ≡ in_utc s
+utc_is s i n rest a b c = rw (a, b, ← c) refl
 
 -- a text of fixed width in the place of a stamp is read as its instant
 stamp-fixed : (line : List ℕ) (s : Stamp) → stamp_of line ≡ Ok s → HasFixedText s.instant
@@ -52,7 +52,7 @@ stamp-fixed line s e fixed =
     ap (λ (z : List ℕ). stamp_of (fixed_text i ++ z)) (behind_stamp line s h)
     ∙ stamp_again (fixed_text i) h.rest (parts_of (local_in_utc i)) (local_in_utc i) (IsDateTime-fixed i fixed) (meaning-fixed i fixed)
     (omega (arith, count)) h.ends
-    ∙ ap (λ (z : Stamp). Ok z) (utc_is s _ _ (slice_get h.rest 0) (instant_of-utc i) count h.zone)
+    ∙ ap (λ (z : Stamp). Ok z) (utc_is s _ _ h.rest (instant_of-utc i) count h.zone)
 
 -- what a line with a stamp is written as
 written_as : (line : List ℕ) (s : Stamp) (text : List ℕ) → stamp_of line ≡ Ok s → text_in Utc s.instant ≡ Some text

@@ -10,6 +10,10 @@ _stamps() {
         mapfile -t COMPREPLY < <(compgen -W 'rfc3339 rfc3339-comma journald rfc5424 rfc3164 git postgres clf git-default date rfc2822 haproxy nginx-error local-comma local two-spaces apache-error redis tomcat erlang bgl syslog klog android syslog-year modsecurity php hour-offset cisco-utc cisco asa nxos django splunk clickhouse suricata redis-2.8 glog unix unix-ms unix-us unix-ns mysql-5.6 hdfs spark' -- "$typed")
         return
     fi
+    if [ "${COMP_WORDS[COMP_CWORD - 1]}" = --place ]; then
+        mapfile -t COMPREPLY < <(compgen -W 'front access coloured field: after: json:' -- "$typed")
+        return
+    fi
     # With no answer here, bash completes the name of a file.
     [[ "$typed" == -* ]] || return 0
     case "${COMP_WORDS[1]}" in

@@ -1,7 +1,7 @@
 -- Laws of all inputs, for the owner of a log. A function of `src/laws.rt` proves each of them.
 use Rattle.std.specs.Prelude.{◌≡◌, ◌↔◌, ℕ, ◌+◌, ◌-◌, ◌≤◌, Bool, true, false, not, ◌&&◌, List, []}
 use Rattle.std.specs.Prelude.{◌∷◌, ◌++◌, drop, length, map, nat_eq, slice_get, take, if◌then◌else◌, ℤ, ◌-ℤ◌, int_lt, Option, Some, None}
-use Rattle.std.specs.Prelude.{Result, Ok, Err, IsOk, IsTrue, ⊤}
+use Rattle.std.specs.Prelude.{Result, Ok, Err, IsOk, IsTrue}
 use Rattle.std.specs.Cmp.Lexicographic.{slice_cmp}
 use Rattle.std.specs.List.{concat, list_all, list_any, starts_with}
 use Rattle.std.specs.Ordering.{int_cmp, nat_cmp}
@@ -17,10 +17,10 @@ use Rattle.rfc3339.specs.declared.parts.Parts.{Parts}
 use Rattle.rfc3339.specs.declared.refusal.Component.{Component}
 use Rattle.rfc3339.specs.declared.refusal.TextRefusal.TheVariants.{Syntax, OutOfRange}
 use Rattle.stamps.specs.Decisions.{is_earlier, last_of, later_of, one_more, reading, rewritten}
-use Rattle.log_forms.specs.Ends.{continues}
+use Rattle.log_forms.specs.Ends.{opens_bracket, runs_on}
 use Rattle.log_forms.specs.declared.places.Place.TheVariants.{Json}
 use Rattle.log_forms.specs.declared.stamps.Stamp as forms
-use Rattle.stamps.specs.LineStamps.{byte_order_mark, longest_stamp, opens_bracket, stamp_of}
+use Rattle.stamps.specs.LineStamps.{byte_order_mark, longest_stamp, stamp_of}
 use Rattle.stamps.specs.Notes.{note_text}
 use Rattle.stamps.specs.Readers.{IsOfOneLine, line_stamp, value_kind}
 use Rattle.stamps.specs.Runs.{input_run, output_of}
@@ -41,12 +41,7 @@ use Rattle.stamps.specs.declared.task.Action.TheVariants.{Write, Check, Gaps, Si
 
 -- ---- stamps
 
--- the first byte, if there is one, does not continue a date-time
-abbrev pub IsBoundary : List ℕ → Type 0
-IsBoundary [] = ⊤
-IsBoundary (byte ∷ rest) = continues byte ≡ false
-
--- a stamp at the start of a text: an RFC 3339 date-time in range, of at most 1,023 bytes, that ends there
+-- a stamp at the start of a text: an RFC 3339 date-time in range, of at most 1,022 bytes, that ends there
 pub record HasStamp (text : List ℕ) (stamp : Stamp) : Type 0 where
   pub spelled : List ℕ
   pub rest : List ℕ
@@ -55,20 +50,20 @@ pub record HasStamp (text : List ℕ) (stamp : Stamp) : Type 0 where
   pub form : IsDateTime spelled parts
   pub ranges : AreInRange parts
   pub short : length spelled ≤ longest_stamp
-  pub ends : IsBoundary rest
+  pub ends : runs_on false rest ≡ false
   pub instant : stamp.instant ≡ instant_of (value_of parts)
   pub count : stamp.length ≡ length spelled
-  pub zone : stamp.is_zoned ≡ opens_bracket (slice_get rest 0)
+  pub zone : stamp.is_zoned ≡ opens_bracket rest
 
 -- a text has the stamp that `stamp_of` returns, and no other. A date-time that continues is no stamp, and a stamp with a part
 -- out of its range returns the error of that part
 pub record StampsAreDateTimes : Type 0 where
   pub sound : (text : List ℕ) (stamp : Stamp) → stamp_of text ≡ Ok stamp → HasStamp text stamp
   pub complete : (text : List ℕ) (stamp : Stamp) → HasStamp text stamp → stamp_of text ≡ Ok stamp
-  pub continued : (spelled rest : List ℕ) (byte : ℕ) (p : Parts) → IsDateTime spelled p → length spelled ≤ longest_stamp
-      → continues byte ≡ true → stamp_of (spelled ++ byte ∷ rest) ≡ Err Syntax
+  pub continued : (spelled rest : List ℕ) (p : Parts) → IsDateTime spelled p → length spelled ≤ longest_stamp
+      → runs_on false rest ≡ true → stamp_of (spelled ++ rest) ≡ Err Syntax
   pub refused : (spelled rest : List ℕ) (p : Parts) (component : Component) → IsDateTime spelled p → length spelled ≤ longest_stamp
-      → IsBoundary rest → meaning p ≡ Err (OutOfRange component) → stamp_of (spelled ++ rest) ≡ Err (OutOfRange component)
+      → runs_on false rest ≡ false → meaning p ≡ Err (OutOfRange component) → stamp_of (spelled ++ rest) ≡ Err (OutOfRange component)
 
 -- ---- the lines of an input
 

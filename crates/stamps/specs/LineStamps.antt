@@ -1,10 +1,10 @@
 -- The stamp of a line.
-use Rattle.std.specs.Prelude.{ℕ, ◌-◌, ◌==◌, ◌&&◌, ◌||◌, Bool, true, false, not, nat_eq, nat_lt}
-use Rattle.std.specs.Prelude.{List, [], ◌∷◌, length, slice_get, take, if◌then◌else◌, ℤ, Option, Some, None}
+use Rattle.std.specs.Prelude.{ℕ, ◌-◌, ◌&&◌, ◌||◌, Bool, true, false, not, nat_eq, nat_lt}
+use Rattle.std.specs.Prelude.{List, [], ◌∷◌, drop, length, take, if◌then◌else◌, ℤ, Option, Some, None}
 use Rattle.std.specs.Prelude.{Result, Err}
 use Rattle.std.specs.List.{starts_with}
 use Rattle.std.specs.Result.{result_map_both}
-use Rattle.log_forms.specs.Ends.{continues}
+use Rattle.log_forms.specs.Ends.{opens_bracket, runs_on}
 use Rattle.offset_times.specs.Local.{Local, instant_of}
 use Rattle.rfc3339.specs.Meaning.{meaning}
 use Rattle.rfc3339.specs.Reading.{front_at}
@@ -28,40 +28,30 @@ mark_length false = 0
 
 -- the most bytes of a stamp
 abbrev pub longest_stamp : ℕ
-longest_stamp = 1023
+longest_stamp = 1022
 
--- the most bytes of a line that decide on it: a byte order mark, the longest stamp, and the byte after it
+-- the most bytes of a line that decide on it: a byte order mark, the longest stamp, and two bytes after it
 abbrev pub longest_head : ℕ
 longest_head = 1027
 
--- whether the byte after a date-time, if there is one, continues it
-abbrev pub is_continued : Option ℕ → Bool
-is_continued (Some byte) = continues byte
-is_continued None = false
+-- the stamp of an instant, a length and the rest of the line after it
+abbrev pub stamp : ℤ → ℕ → List ℕ → Stamp
+stamp instant count rest = record { instant = instant; length = count; is_zoned = opens_bracket rest }
 
--- whether the byte after a date-time opens a bracket
-abbrev pub opens_bracket : Option ℕ → Bool
-opens_bracket (Some byte) = byte == 91
-opens_bracket None = false
-
--- the stamp of an instant, a length and the byte after it
-abbrev pub stamp : ℤ → ℕ → Option ℕ → Stamp
-stamp instant count next = record { instant = instant; length = count; is_zoned = opens_bracket next }
-
--- whether a date-time of this length ends before the next byte, and has at most 1,023 bytes
-abbrev pub ends : ℕ → Option ℕ → Bool
-ends count next = not (nat_lt longest_stamp count || is_continued next)
+-- whether a date-time of this length ends before the rest of the line, and has at most 1,022 bytes
+abbrev pub ends : ℕ → List ℕ → Bool
+ends count rest = not (nat_lt longest_stamp count || runs_on false rest)
 
 -- the stamp of a date-time of this length, or the error: a date-time that does not end there is no stamp
-abbrev pub ended_stamp : Result Local TextRefusal → ℕ → Option ℕ → Result Stamp TextRefusal
-ended_stamp meaning count next =
-    if ends count next then result_map_both (λ at. stamp (instant_of at) count next) (λ refusal. refusal) meaning else Err Syntax
+abbrev pub ended_stamp : Result Local TextRefusal → ℕ → List ℕ → Result Stamp TextRefusal
+ended_stamp meaning count rest =
+    if ends count rest then result_map_both (λ at. stamp (instant_of at) count rest) (λ refusal. refusal) meaning else Err Syntax
 
 -- the stamp of a front, by the date-time in it and the rest after that, or the error
 abbrev pub front_stamp : List ℕ → Option (Parts × List ℕ) → Result Stamp TextRefusal
 front_stamp front None = Err Syntax
-front_stamp front (Some (p, rest)) = let count = length front - length rest in ended_stamp (meaning p) count (slice_get front count)
+front_stamp front (Some (p, rest)) = let count = length front - length rest in ended_stamp (meaning p) count (drop count front)
 
--- the stamp at the start of a text, which is a date-time of at most 1,023 bytes that ends there, or the error
+-- the stamp at the start of a text, which is a date-time of at most 1,022 bytes that ends there, or the error
 unfoldable pub stamp_of : List ℕ → Result Stamp TextRefusal
 stamp_of text = let front = take 1024 text in front_stamp front (front_at front)

@@ -189,7 +189,7 @@ needs_lines_before (Formed by) = is_some by.assumed.year
 abbrev pub reading_text : ReadingMisuse → List ℕ
 reading_text misuse.UnknownForm = codes "the form '' is unknown: write a name of --list-forms, or a description, as [day]/[month]/[year]"
 reading_text misuse.Description = codes "the description '' is at fault: write it as [day]/[month repr:short]/[year]"
-reading_text misuse.Place = codes "the place '' is unknown: write front, field:N, after:TEXT or json:NAME"
+reading_text misuse.Place = codes "the place '' is unknown: write front, access, coloured, field:N, after:TEXT or json:NAME"
 reading_text misuse.LongPlace = codes "the text of the place has more than 255 bytes: write a shorter one"
 reading_text (misuse.Offset Syntax) = codes "the offset '' has another form: write it as +05:30 or Z"
 reading_text (misuse.Offset (OutOfRange component)) = codes "the offset '' is out of range: write one from -23:59 to +23:59"

@@ -1,15 +1,15 @@
 //! The decision about a line.
-ghost use Rattle.std.specs.Prelude.{◌≡◌, ◌≢◌, ◌≤◌, ℕ, ℤ, true, if◌then◌else◌, List, length, slice_get, take, Option, Some, None, IfSome, Ok, Err};
+ghost use Rattle.std.specs.Prelude.{◌≡◌, ◌≢◌, ◌≤◌, ℕ, ℤ, true, false, if◌then◌else◌, List, length, slice_get, take, Option, Some, None, IfSome, Ok, Err};
+ghost use Rattle.line_devices.specs.StampTallies.{kind_of, tally_after};
 ghost use Rattle.offset_times.specs.Local.{instant_of};
 ghost use Rattle.rfc3339.specs.Front.{front_meaning};
 ghost use Rattle.rfc3339.specs.Reading.{front_at};
 ghost use Rattle.rfc3339.specs.declared.refusal.TextRefusal.TheVariants.{Syntax};
 ghost use Rattle.stamps.specs.Decisions.{as_it_is, cause_of, check_line, decision_by, finding_at_end, first_state, gap_after, gap_line};
 ghost use Rattle.stamps.specs.Decisions.{as_note, going_on, stop_if};
-ghost use Rattle.stamps.specs.Decisions.{goes_on, is_earlier, is_first, last_of, later_of, latest_of, rewritten, state_after, state_by};
+ghost use Rattle.stamps.specs.Decisions.{goes_on, is_earlier, is_first, last_of, later_of, latest_of, line_kind, rewritten, state_after, state_by};
 ghost use Rattle.stamps.specs.LineInstants.{stamp_instant};
-ghost use Rattle.stamps.specs.LineStamps.{ends, front_stamp, has_mark, is_continued};
-ghost use Rattle.stamps.specs.LineStamps.{opens_bracket, stamp, stamp_of};
+ghost use Rattle.stamps.specs.LineStamps.{ends, front_stamp, has_mark, stamp, stamp_of};
 ghost use Rattle.stamps.specs.Readers.{line_stamp, plain_at};
 ghost use Rattle.stamps.specs.Styles.{text_in};
 ghost use Rattle.stamps.specs.declared.decide.Decision.TheVariants.{Keep};
@@ -18,20 +18,21 @@ ghost use Rattle.stamps.specs.declared.decide.State.{State};
 use crate::finding::{Cause, Finding};
 use crate::notes::Note;
 use crate::readers::{LineRefusal, LineStamp, line_stamp};
+use crate::reading::behind;
 use crate::style::stamp_text;
 use crate::task::{Action, Style, Task};
 use calendar_values::{SignedDuration, Text};
-use line_devices::stamp_tallies::{LineKind, StampTally, kind_of};
-use log_forms::continues;
+use line_devices::stamp_tallies::{StampTally, kind_of};
+use log_forms::{opens_bracket, runs_on};
 use offset_times::OffsetDateTime;
 use rfc3339::{TextRefusal, parse_rfc3339_front, syntax_fault};
 use utc_times::UtcDateTime;
 
 /// The most bytes of a stamp.
-pub const LONGEST_STAMP: usize = 1_023;
+pub const LONGEST_STAMP: usize = 1_022;
 
 /// The most bytes of a line that decide what becomes of it: a byte order mark, the longest stamp,
-/// and one byte more.
+/// and two bytes more.
 pub const LONGEST_HEAD: usize = 1_027;
 
 // The most bytes in which a stamp is looked for.
@@ -102,8 +103,7 @@ pub fn read_stamp(task: &Task, state: &mut State, line: &[u8]) -> Result<LineSta
     ensures state { state.new ≡ state_after task.now state.old line.now }
 {
     let stamp = line_stamp(&task.reader, state.last, state.lines == 0, line);
-    let kind = kind_of(line, stamp.is_ok());
-    *state = state_by(&task.action, state, kind, &stamp);
+    update(&task.action, state, line, &stamp);
     stamp
 }
 
@@ -167,24 +167,28 @@ pub fn decision_by(
     }
 }
 
-// What is known after a line of this kind with this stamp.
+// Brings the state up to a line with this stamp. Its tally changes in place.
 #[inline(always)]
-fn state_by(
-    action: &Action,
-    state: &State,
-    kind: LineKind,
-    stamp: &Result<LineStamp, LineRefusal>,
-) -> State
-    ensures { result ≡ state_by action.now state.now kind stamp.now }
+fn update(action: &Action, state: &mut State, line: &[u8], stamp: &Result<LineStamp, LineRefusal>)
+    ensures { state.new
+        ≡ state_by action.now state.old (line_kind line.now stamp.now) stamp.now }
 {
-    let lines = state.lines.saturating_add(1);
-    State {
-        lines,
-        last: last_of(state.last, stamp),
-        latest: latest_of(action, state.latest, stamp),
-        goes_on: goes_on(action, state.goes_on, stamp),
-        tally: state.tally.after(lines, kind),
+    state.lines = state.lines.saturating_add(1);
+    state.last = last_of(state.last, stamp);
+    state.latest = latest_of(action, state.latest, stamp);
+    state.goes_on = goes_on(action, state.goes_on, stamp);
+    match stamp {
+        Ok(_) => state.tally.texts = state.tally.texts.saturating_add(1),
+        Err(_) => state.tally = without_stamp(state.tally, state.lines, line),
     }
+}
+
+// The tally after a line of this number without a stamp.
+#[inline(never)]
+fn without_stamp(tally: StampTally, number: u64, line: &[u8]) -> StampTally
+    ensures { result ≡ tally_after tally number (kind_of line.now false) }
+{
+    tally.after(number, kind_of(line, false))
 }
 
 // The last instant.
@@ -250,7 +254,7 @@ fn stamp_in(front: &[u8]) -> Result<Stamp, TextRefusal>
     ensures { result ≡ front_stamp front.now (front_at front.now) }
 {
     match parse_rfc3339_front(front) {
-        Ok((at, length)) => stamp_before(byte_at(front, length), at.to_utc(), length),
+        Ok((at, length)) => stamp_before(behind(front, length), at.to_utc(), length),
         Err(TextRefusal::Syntax) => Err(TextRefusal::Syntax),
         Err(refusal) => refusal_before(front, refusal),
     }
@@ -272,46 +276,47 @@ fn nanos_in(front: &[u8]) -> Option<i128>
         ≡ stamp_instant (plain_at before (front_stamp front.now (front_at front.now))) }
 {
     match parse_rfc3339_front(front) {
-        Ok((at, length)) => nanos_before(byte_at(front, length), at, length),
+        Ok((at, length)) => nanos_before(behind(front, length), at, length),
         Err(_) => None,
     }
 }
 
-// The instant of a date-time of this number of bytes before the next byte. If that byte continues it, there is none.
+// The instant of a date-time of this number of bytes before the rest of a line. If that continues it, there is none.
 #[inline(always)]
-fn nanos_before(next: Option<u8>, at: OffsetDateTime, length: usize) -> Option<i128>
-    ensures { result ≡ if ends length next then Some (instant_of at) else None }
+fn nanos_before(rest: &[u8], at: OffsetDateTime, length: usize) -> Option<i128>
+    ensures { result ≡ if ends length rest.now then Some (instant_of at) else None }
 {
-    if ends(length, next) {
+    if ends(length, rest) {
         Some(at.unix_timestamp_nanos())
     } else {
         None
     }
 }
 
-// The stamp of this number of bytes before the next byte. If that byte continues it, there is none.
+// The stamp of this number of bytes before the rest of a line. If that continues it, there is none.
 #[inline(always)]
-fn stamp_before(next: Option<u8>, instant: UtcDateTime, length: usize) -> Result<Stamp, TextRefusal>
-    ensures { result ≡ if ends length next then Ok (stamp instant length next) else Err Syntax }
+fn stamp_before(rest: &[u8], instant: UtcDateTime, length: usize) -> Result<Stamp, TextRefusal>
+    ensures { result
+        ≡ if ends length rest.now then Ok (stamp instant length rest.now) else Err Syntax }
 {
-    if !ends(length, next) {
+    if !ends(length, rest) {
         return Err(TextRefusal::Syntax);
     }
     Ok(Stamp {
         instant,
         length,
-        is_zoned: opens_bracket(next),
+        is_zoned: opens_bracket(rest),
     })
 }
 
-// The refusal of the date-time in a front. If the byte after it continues it, there is no stamp.
+// The refusal of the date-time in a front. If what is after it continues it, there is no stamp.
 fn refusal_before(front: &[u8], refusal: TextRefusal) -> Result<Stamp, TextRefusal>
     requires meaning { front_meaning front.now (front_at front.now) ≡ Err refusal }
     requires other { refusal ≢ Syntax }
     ensures { result ≡ front_stamp front.now (front_at front.now) }
 {
     let length = syntax_fault(front);
-    if ends(length, byte_at(front, length)) {
+    if ends(length, behind(front, length)) {
         Err(refusal)
     } else {
         Err(TextRefusal::Syntax)
@@ -326,35 +331,12 @@ pub(crate) fn byte_at(text: &[u8], place: usize) -> Option<u8>
     text.get(place).copied()
 }
 
-// Whether a date-time of this number of bytes ends before the next byte, and has no more than a stamp may have.
+// Whether a date-time of this number of bytes ends before the rest of a line, and has no more than a stamp may have.
 #[inline(always)]
-fn ends(length: usize, next: Option<u8>) -> bool
-    ensures { result ≡ ends length next }
+fn ends(length: usize, rest: &[u8]) -> bool
+    ensures { result ≡ ends length rest.now }
 {
-    !(length > LONGEST_STAMP || is_continued(next))
-}
-
-// Whether the byte after a date-time continues it.
-#[inline(always)]
-fn is_continued(next: Option<u8>) -> bool
-    ensures { result ≡ is_continued next }
-{
-    match next {
-        Some(b' ') => false,
-        Some(byte) => continues(byte),
-        None => false,
-    }
-}
-
-// Whether the byte after a date-time opens a bracket.
-#[inline(always)]
-fn opens_bracket(next: Option<u8>) -> bool
-    ensures { result ≡ opens_bracket next }
-{
-    match next {
-        Some(byte) => byte == b'[',
-        None => false,
-    }
+    !(length > LONGEST_STAMP || runs_on(false, rest))
 }
 
 // Whether a line is written.

@@ -146,7 +146,7 @@ fn sort(rt: &HostRuntime, given: Vec<String>) -> Result<Sorted, AllocError> {
         Step::Place => {
             sort_as_misuse(
                 rt,
-                "--place has no value: add front, field:N, after:TEXT or json:NAME",
+                "--place has no value: add front, access, coloured, field:N, after:TEXT or json:NAME",
             )
         }
         Step::Offset => sort_as_misuse(rt, "--offset has no value: add one, as +05:30 or Z"),

@@ -169,7 +169,8 @@ pub(crate) fn place_text(place: Place, text: &[u8]) -> Result<(Place, PlaceText)
 
 // A word without this many bytes in front.
 #[tactic(auto, using(crate::proofs::ReadingLemmas::behinds))]
-fn behind(word: &[u8], count: usize) -> &[u8]
+#[inline(always)]
+pub(crate) fn behind(word: &[u8], count: usize) -> &[u8]
     ensures { result.now ≡ drop count word.now }
 {
     if count < word.len() {
@@ -345,7 +346,7 @@ pub fn reading_line(misuse: ReadingMisuse) -> &'static str
         ReadingMisuse::Description =>
             "the description '' is at fault: write it as [day]/[month repr:short]/[year]",
         ReadingMisuse::Place =>
-            "the place '' is unknown: write front, field:N, after:TEXT or json:NAME",
+            "the place '' is unknown: write front, access, coloured, field:N, after:TEXT or json:NAME",
         ReadingMisuse::LongPlace =>
             "the text of the place has more than 255 bytes: write a shorter one",
         ReadingMisuse::Offset(TextRefusal::Syntax) =>

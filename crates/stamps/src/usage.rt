@@ -18,7 +18,7 @@ With --strict the first line without a stamp ends the run, but not that of merge
 With --strict the first line that goes back ends gaps, count and merge.
 With --all check prints every line at fault, and count each row of 0.
 With --form FORM stamps have a form by its name, or by a description, as [day]/[month]/[year].
-With --place PLACE they are at front, field:N, after:TEXT or json:NAME.
+With --place PLACE they are at front, access, coloured, field:N, after:TEXT or json:NAME.
 With --offset OFFSET those without an offset have this one, as +05:30 or Z.
 With --year YEAR the first of those without a year has this one.
 With --quiet stamps leaves out its notes, but no error.

@@ -8,7 +8,7 @@ pub returns-in-Ok : goal.returns-in-Ok
 unfolding front_reading_of
 returns-in-Ok c = λ before.
     let front = c.args.front.now in
-    front_instant before front (front_at front) _ _ (sym c.in-Ok.ensures.reading) (rw c.byte_at.ensures at c.nanos_before.ensures)
+    front_instant before front (front_at front) _ _ (sym c.in-Ok.ensures.reading) (rw c.behind.ensures at c.nanos_before.ensures)
 
 pub returns-in-Err : goal.returns-in-Err
 unfolding front_reading_of

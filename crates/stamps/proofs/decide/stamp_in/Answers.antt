@@ -10,7 +10,7 @@ unfolding front_reading_of
 returns-in-Ok c =
     let front = c.args.front.now in
     rw (front_accepted front (front_at front) _ (sym c.in-Ok.ensures.reading)) (
-    rw (c.to_utc.ensures, c.byte_at.ensures) at c.stamp_before.ensures
+    rw (c.to_utc.ensures, c.behind.ensures) at c.stamp_before.ensures
     )
 
 pub returns-in-Err-Syntax : goal.returns-in-Err-Syntax
