@@ -26,3 +26,4 @@ pub mod Tallies
 pub mod Tasks
 pub mod Turns
 pub mod Usage
+pub mod Years

@@ -97,6 +97,10 @@ pub enum ReadingMisuse {
     Offset(TextRefusal),
     /// The year is invalid.
     Year,
+    /// The year is that of a file which is not named.
+    YearFile,
+    /// The time of the last change of a file gives the year, and the input has none.
+    YearTime,
     /// The form has no offset, and none is given.
     LacksOffset,
     /// The form has no year, and none is given.
@@ -216,7 +220,7 @@ pub(crate) fn year_asked(year: Option<&[u8]>) -> Result<Option<i32>, ReadingMisu
 }
 
 // The year of four digits.
-fn year_of(word: &[u8]) -> Option<i32>
+pub(crate) fn year_of(word: &[u8]) -> Option<i32>
     ensures { result ≡ year_of word.now }
 {
     let [a, b, c, d] = word else {
@@ -352,7 +356,12 @@ pub fn reading_line(misuse: ReadingMisuse) -> &'static str
             "the offset '' has another form: write it as +05:30 or Z",
         ReadingMisuse::Offset(TextRefusal::OutOfRange(_)) =>
             "the offset '' is out of range: write one from -23:59 to +23:59",
-        ReadingMisuse::Year => "the year '' has another form: write its four digits, as 2024",
+        ReadingMisuse::Year =>
+            "the year '' has another form: write its four digits, as 2024, FILE=2024 or mtime",
+        ReadingMisuse::YearFile =>
+            "--year names the file '', which the command does not read: write the name as there",
+        ReadingMisuse::YearTime =>
+            "the input has no time of a last change: add the first year, as --year 2024",
         ReadingMisuse::LacksOffset => "the form has no offset: add one, as --offset +05:30",
         ReadingMisuse::LacksYear => "the form has no year: add the first one, as --year 2024",
         ReadingMisuse::LacksBoth =>

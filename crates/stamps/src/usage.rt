@@ -20,7 +20,8 @@ With --all check prints every line at fault, and count each row of 0.
 With --form FORM stamps have a form by its name, or by a description, as [day]/[month]/[year].
 With --place PLACE they are at front, field:N, after:TEXT or json:NAME.
 With --offset OFFSET those without an offset have this one, as +05:30 or Z.
-With --year YEAR the first of those without a year has this one.
+With --year YEAR the first of those without a year has this one, with --year FILE=YEAR that of FILE.
+With --year mtime it has the latest that is not after the last change of its file.
 With --quiet stamps leaves out its notes, but no error.
 Without --form and --place the first lines of each FILE choose both.
 With --form alone the place is front. With --place alone the form is rfc3339.
