@@ -37,7 +37,7 @@ get-more : (rest more : List ℕ) → (rest ≡ [] → more ≡ []) → slice_ge
 get-more [] more h = ap (λ (z : List ℕ). slice_get z 0) (h refl)
 get-more (byte ∷ rest) more h = refl
 
-boundary_of : (rest : List ℕ) → is_continued (slice_get rest 0) ≡ false → IsBoundary rest
+pub boundary_of : (rest : List ℕ) → is_continued (slice_get rest 0) ≡ false → IsBoundary rest
 boundary_of [] e = tt
 boundary_of (byte ∷ rest) e = e
 

@@ -17,4 +17,5 @@ complete -c stamps -n '__fish_seen_subcommand_from utc at unix check gaps count 
 complete -c stamps -n '__fish_seen_subcommand_from utc at unix check gaps count since until merge' -x -l place -d 'read stamps at front, field:N, after:TEXT or json:NAME'
 complete -c stamps -n '__fish_seen_subcommand_from utc at unix check gaps count since until merge' -x -l offset -d 'the offset of stamps that have none, as +05:30 or Z'
 complete -c stamps -n '__fish_seen_subcommand_from utc at unix check gaps count since until merge' -x -l year -d 'the year of the first stamp that has none, FILE=YEAR for one file, and mtime for the latest that is not after its last change'
+complete -c stamps -n '__fish_seen_subcommand_from merge' -x -l to -f -a utc -d 'write each stamp in front of its line: in utc, or at an offset, as +05:30'
 complete -c stamps -n '__fish_seen_subcommand_from utc at unix check gaps count since until merge' -l quiet -d 'leave out the notes on standard error, but no error'

@@ -10,6 +10,7 @@ pub mod Durations
 pub mod Faults
 pub mod Files
 pub mod Findings
+pub mod FrontLines
 pub mod Laws
 pub mod LineInstantLemmas
 pub mod LineInstants

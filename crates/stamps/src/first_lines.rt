@@ -126,6 +126,14 @@ fn reader_in_year(
     Ok(reader)
 }
 
+/// The reader of an input, or that of the words if the input has none of its own.
+pub fn reader_or(own: Option<Reader>, given: Given<'_>) -> Result<Reader, ReadingMisuse> {
+    match own {
+        Some(own) => Ok(own),
+        None => reader_by(given, None, None),
+    }
+}
+
 // The reader of the form and the place with a number, or of the words, in a year.
 fn reader_by(
     given: Given<'_>,

@@ -10,6 +10,7 @@ mod durations;
 mod files;
 mod finding;
 mod first_lines;
+mod fronted;
 mod inputs;
 mod instants;
 mod laws;
@@ -35,13 +36,14 @@ use first_lines::Given;
 use log_forms::{FORMS, form_name, sample_of};
 use readers::Reader;
 use reading::{
-    ReadingMisuse, Step, is_valued, kind_of, reader_of, reading_line, step_after, twice_of,
+    ReadingMisuse, Step, is_valued, kind_of, reader_of, reading_line, step_after, style_asked,
+    twice_of,
 };
 use sources::{FAILED, print_line, say};
 use std::alloc::AllocError;
 use std::process::ExitCode;
 use std::{env, io};
-use task::Task;
+use task::{Style, Task};
 use usage::USAGE;
 use years::{is_year, name_in, names_same, year_in};
 
@@ -76,6 +78,7 @@ struct Asked {
     place: Option<String>,
     offset: Option<String>,
     years: Vec<String>,
+    to: Option<String>,
     is_quiet: bool,
     options: Vec<String>,
 }
@@ -88,6 +91,7 @@ impl Asked {
             Step::Form => &mut self.form,
             Step::Place => &mut self.place,
             Step::Offset => &mut self.offset,
+            Step::To => &mut self.to,
             _ => return self.keep_year(word),
         };
         let is_first = value.is_none();
@@ -111,6 +115,7 @@ impl Asked {
             || self.place.is_some()
             || self.offset.is_some()
             || !self.years.is_empty()
+            || self.to.is_some()
     }
 }
 
@@ -133,6 +138,7 @@ fn sort(rt: &HostRuntime, given: Vec<String>) -> Result<Sorted, AllocError> {
         place: None,
         offset: None,
         years: Vec::new(rt.alloc()),
+        to: None,
         is_quiet: false,
         options: Vec::new(rt.alloc()),
     };
@@ -142,7 +148,9 @@ fn sort(rt: &HostRuntime, given: Vec<String>) -> Result<Sorted, AllocError> {
         let before = step;
         step = step_after(before, word.as_bytes());
         match step {
-            Step::Form | Step::Place | Step::Offset | Step::Year => asked.options.push(word)?,
+            Step::Form | Step::Place | Step::Offset | Step::Year | Step::To => {
+                asked.options.push(word)?
+            }
             Step::Quiet => {
                 asked.is_quiet = true;
                 asked.options.push(word)?;
@@ -172,6 +180,7 @@ fn sort(rt: &HostRuntime, given: Vec<String>) -> Result<Sorted, AllocError> {
                 "--year has no value: add its four digits, as 2024, FILE=2024 or mtime",
             )
         }
+        Step::To => sort_as_misuse(rt, "--to has no value: add utc, or an offset, as +05:30"),
         _ if lists && (!words.is_empty() || asked.is_any()) => {
             sort_as_misuse(rt, "--list-forms takes no other words: leave them out")
         }
@@ -258,6 +267,15 @@ fn reader_asked(asked: &Asked) -> Result<Reader, ReadingMisuse> {
     )
 }
 
+// The style in which a merge writes stamps, if one is given.
+fn style_of(asked: &Asked, request: &Request) -> Result<Option<Style>, ReadingMisuse> {
+    match (&asked.to, request) {
+        (None, _) => Ok(None),
+        (Some(word), Request::Merge(_)) => Ok(Some(style_asked(word.as_bytes())?)),
+        (Some(_), _) => Err(ReadingMisuse::ToAlone),
+    }
+}
+
 // The first misuse of the values of `--year`, and what is at fault: one that is no year, or that
 // names no file of the command.
 fn year_misuse<'a>(asked: &'a Asked, files: &[String]) -> Option<(ReadingMisuse, &'a str)> {
@@ -282,6 +300,7 @@ fn value_at_fault(asked: &Asked, misuse: ReadingMisuse) -> &str {
         ReadingMisuse::UnknownForm | ReadingMisuse::Description => &asked.form,
         ReadingMisuse::Place => &asked.place,
         ReadingMisuse::Offset(_) => &asked.offset,
+        ReadingMisuse::To(_) => &asked.to,
         _ => return "",
     };
     match value {
@@ -326,12 +345,12 @@ fn obey(rt: &HostRuntime, given: &[String], files: &[String], asked: &Asked) -> 
             if let Some((misuse, word)) = year_misuse(asked, files) {
                 return report_misuse(rt, reading_line(misuse), word);
             }
-            match reader_asked(asked) {
-                Ok(reader) => {
+            match (reader_asked(asked), style_of(asked, &request)) {
+                (Ok(reader), Ok(to)) => {
                     let choice = choice_of(asked, years.as_slice(), given);
-                    run(rt, job_of(request, reader), choice, files)
+                    run(rt, job_of(request, reader, to), choice, files)
                 }
-                Err(misuse) => {
+                (Err(misuse), _) | (_, Err(misuse)) => {
                     report_misuse(rt, reading_line(misuse), value_at_fault(asked, misuse))
                 }
             }
@@ -386,12 +405,12 @@ fn report_misuse(rt: &HostRuntime, text: &str, word: &str) -> ExitCode {
 enum Job {
     Work(Task),
     Count(ClockBuckets, bool),
-    Merge(Reader, bool),
+    Merge(Reader, Option<Style>, bool),
     Nothing,
 }
 
 // The job of a request, by how stamps are read.
-fn job_of(request: Request, reader: Reader) -> Job {
+fn job_of(request: Request, reader: Reader, to: Option<Style>) -> Job {
     match request {
         Request::Help | Request::Version => Job::Nothing,
         Request::Work(action) => Job::Work(Task { action, reader }),
@@ -403,7 +422,7 @@ fn job_of(request: Request, reader: Reader) -> Job {
             },
             is_strict,
         ),
-        Request::Merge(is_strict) => Job::Merge(reader, is_strict),
+        Request::Merge(is_strict) => Job::Merge(reader, to, is_strict),
     }
 }
 
@@ -414,6 +433,8 @@ fn run(rt: &HostRuntime, job: Job, given: Given<'_>, files: &[String]) -> ExitCo
         Job::Nothing => 0,
         Job::Work(task) => inputs::run(rt, &task, given, words, files),
         Job::Count(buckets, is_strict) => counts::run(rt, &buckets, is_strict, given, words, files),
-        Job::Merge(reader, is_strict) => merges::run(rt, reader, is_strict, given, words, files),
+        Job::Merge(reader, to, is_strict) => {
+            merges::run(rt, reader, to, is_strict, given, words, files)
+        }
     })
 }

@@ -3,11 +3,12 @@ ghost use Rattle.std.specs.Prelude.{◌≡◌, ◌≤◌, drop, length, option_m
 ghost use Rattle.stamps.specs.Reading.{is_valued, needs_lines_before};
 ghost use Rattle.stamps.specs.Reading.{form_asked, is_front, kind_of, offset_asked, place_asked, place_text, plain_reader};
 ghost use Rattle.stamps.specs.Reading.{reader_of, reader_with, reading_text};
-ghost use Rattle.stamps.specs.Reading.{step_after, twice_of, whole_reader, year_asked, year_of};
+ghost use Rattle.stamps.specs.Reading.{step_after, style_asked, twice_of, whole_reader, year_asked, year_of};
 
 use crate::arguments::is;
 use crate::files::is_dashes;
 use crate::readers::{FormReader, MOST_TEXT, PlaceText, Reader};
+use crate::task::Style;
 use calendar_values::UtcOffset;
 use log_forms::{
     Assumed, Form, FormName, Place, described_form, lacks_offset, lacks_year, name_of, named_form,
@@ -28,6 +29,8 @@ pub enum Step {
     Offset,
     /// `--year`.
     Year,
+    /// `--to`.
+    To,
     /// `--quiet`.
     Quiet,
     /// `--list-forms`.
@@ -54,7 +57,7 @@ pub fn is_valued(step: Step) -> bool
     ensures { result ≡ is_valued step }
 {
     match step {
-        Step::Form | Step::Place | Step::Offset | Step::Year => true,
+        Step::Form | Step::Place | Step::Offset | Step::Year | Step::To => true,
         Step::Word | Step::Quiet | Step::List | Step::Value | Step::File => false,
     }
 }
@@ -73,6 +76,8 @@ pub fn kind_of(word: &[u8]) -> Step
         Step::Offset
     } else if is(word, "--year") {
         Step::Year
+    } else if is(word, "--to") {
+        Step::To
     } else if is(word, "--quiet") {
         Step::Quiet
     } else if is(word, "--list-forms") {
@@ -115,6 +120,12 @@ pub enum ReadingMisuse {
     OffsetTwice,
     /// `--year` is given twice.
     YearTwice,
+    /// The style of a merge is invalid.
+    To(TextRefusal),
+    /// A style is given for another word than `merge`.
+    ToAlone,
+    /// `--to` is given twice.
+    ToTwice,
 }
 
 /// The misuse of an option that is given twice.
@@ -125,6 +136,7 @@ pub fn twice_of(option: Step) -> ReadingMisuse
         Step::Form => ReadingMisuse::FormTwice,
         Step::Place => ReadingMisuse::PlaceTwice,
         Step::Offset => ReadingMisuse::OffsetTwice,
+        Step::To => ReadingMisuse::ToTwice,
         _ => ReadingMisuse::YearTwice,
     }
 }
@@ -329,6 +341,19 @@ pub(crate) fn whole_reader(
     }))
 }
 
+/// The style that a word names: `utc`, or an offset.
+pub fn style_asked(word: &[u8]) -> Result<Style, ReadingMisuse>
+    ensures { result ≡ style_asked word.now }
+{
+    if is(word, "utc") {
+        return Ok(Style::Utc);
+    }
+    match parse_rfc3339_offset(word) {
+        Ok(offset) => Ok(Style::At(offset)),
+        Err(refusal) => Err(ReadingMisuse::To(refusal)),
+    }
+}
+
 /// Whether the stamps that a reader finds depend on the lines before.
 pub fn needs_lines_before(reader: &Reader) -> bool
     ensures { result ≡ needs_lines_before reader.now }
@@ -370,5 +395,12 @@ pub fn reading_line(misuse: ReadingMisuse) -> &'static str
         ReadingMisuse::PlaceTwice => "--place is given twice: leave one out",
         ReadingMisuse::OffsetTwice => "--offset is given twice: leave one out",
         ReadingMisuse::YearTwice => "--year is given twice: leave one out",
+        ReadingMisuse::To(TextRefusal::Syntax) =>
+            "the style '' is unknown: write utc, or an offset, as +05:30",
+        ReadingMisuse::To(TextRefusal::OutOfRange(_)) =>
+            "the offset '' is out of range: write one from -23:59 to +23:59",
+        ReadingMisuse::ToAlone =>
+            "--to goes with merge alone: write utc, or at OFFSET, in place of it",
+        ReadingMisuse::ToTwice => "--to is given twice: leave one out",
     }
 }
