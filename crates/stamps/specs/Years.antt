@@ -1,5 +1,5 @@
 -- The years that the values of `--year` give: a year for each file that no value names, or `FILE=` and the year of a file.
-use Rattle.std.specs.Prelude.{ℕ, ◌+◌, ◌==◌, ◌||◌, Bool, true, false, not, List, [], ◌∷◌, codes, drop, take, if◌then◌else◌, ℤ, int_lt}
+use Rattle.std.specs.Prelude.{ℕ, ◌+◌, ◌==◌, ◌||◌, Bool, false, not, List, [], ◌∷◌, codes, drop, take, if◌then◌else◌, ℤ, int_lt}
 use Rattle.std.specs.Prelude.{Option, Some, None, is_none, is_some, Result, Ok, Err}
 use Rattle.std.specs.Str.{bytes_eq}
 use Rattle.stamps.specs.Readers.{line_stamp}
