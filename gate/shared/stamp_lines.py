@@ -207,6 +207,28 @@ def merge_of(logs, is_strict, finds=None):
     return text_of(texts), sorted(backs.items())
 
 
+# A byte that continues a date-time.
+CONTINUES = re.compile(rb"[0-9A-Za-z+.:-]")
+
+
+def front_lines(data, offset, find=stamp_of):
+    """A log whose lines have their stamps in front at an offset of so many minutes, as `merge --to` reads it: in place of a stamp that
+    begins its line and that no byte continues, and else before the line with a blank. A byte order mark before a stamp goes away.
+    """
+    made = []
+    for number, line in enumerate(re.findall(rb"[^\n]*\n|[^\n]+", data), 1):
+        text = line[len(MARK) :] if number == 1 and line.startswith(MARK) else line
+        stamp = find(text.removesuffix(b"\n"))
+        front = text_at(stamp[0], offset) if isinstance(stamp, tuple) else None
+        if front is None:
+            made.append(line)
+        elif sum(stamp[2:]) == 0 and not CONTINUES.match(text, stamp[1]):
+            made.append(front + text[stamp[1] :])
+        else:
+            made.append(front + b" " + text)
+    return b"".join(made)
+
+
 UNITS = {"minute": 60, "hour": 3_600, "day": 86_400}
 
 # The words of a duration.

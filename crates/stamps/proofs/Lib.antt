@@ -8,6 +8,7 @@ pub mod FrontLemmas
 pub mod GapLawLemmas
 pub mod LineLawLemmas
 pub mod LongLineLemmas
+pub mod MergeLawLemmas
 pub mod PartLemmas
 pub mod ReadLemmas
 mod ReadingLemmas

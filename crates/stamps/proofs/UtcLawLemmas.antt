@@ -31,7 +31,7 @@ fixed_if i true text t e =
     let years = four_digits-true (year_of (wall_day i)) t in (record { year_first = years.0; year_last = years.1 }, cc)
 fixed_if i false text t e = absurd cc
 
-fixed_of : (i : ℤ) (text : List ℕ) → text_in Utc i ≡ Some text → HasFixedText i × (text ≡ fixed_text i)
+pub fixed_of : (i : ℤ) (text : List ℕ) → text_in Utc i ≡ Some text → HasFixedText i × (text ≡ fixed_text i)
 unfolding text_in
 fixed_of i text e = fixed_if i (has_four_digits (year_of (wall_day i))) text refl e
 

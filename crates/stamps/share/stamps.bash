@@ -25,7 +25,7 @@ _stamps() {
         count) options='--all --strict --form --place --offset --year --quiet' ;;
         since) options='--form --place --offset --year --quiet' ;;
         until) options='--form --place --offset --year --quiet' ;;
-        merge) options='--strict --form --place --offset --year --quiet' ;;
+        merge) options='--to --strict --form --place --offset --year --quiet' ;;
     esac
     mapfile -t COMPREPLY < <(compgen -W "$options" -- "$typed")
 }

@@ -1,5 +1,5 @@
 -- The buckets of lines: minutes, hours or days of the local clock at an offset.
-use Rattle.std.specs.Prelude.{ℕ, Bool, true, false, List, ◌++◌, codes, decimal, ℤ, pos, Option}
+use Rattle.std.specs.Prelude.{ℕ, Bool, true, false, List, ◌++◌, codes, decimal, ℤ, Option}
 use Rattle.std.specs.Option.{option_and_then}
 use Rattle.calendar_values.specs.Clock.{nanos_per_day, nanos_per_hour, nanos_per_minute}
 use Rattle.plain_times.specs.Sums.{wall_clock_if_any}

@@ -1,5 +1,5 @@
 -- The reader that the first lines of a log choose.
-use Rattle.std.specs.Prelude.{ℕ, ◌&&◌, Bool, true, false, List, [], ◌∷◌, ℤ, Option, Some, None, Result, Ok, Err}
+use Rattle.std.specs.Prelude.{ℕ, ◌&&◌, Bool, false, List, [], ◌∷◌, ℤ, Option, Some, None, Result, Ok, Err}
 use Rattle.std.specs.Result.{is_ok}
 use Rattle.log_forms.specs.Choices.{choice_of, reader_form, reader_key, reader_place, some_year}
 use Rattle.log_forms.specs.Forms.{form_named}

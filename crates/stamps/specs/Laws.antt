@@ -20,6 +20,7 @@ use Rattle.stamps.specs.Decisions.{is_earlier, last_of, later_of, one_more, read
 use Rattle.log_forms.specs.Ends.{opens_bracket, runs_on}
 use Rattle.log_forms.specs.declared.places.Place.TheVariants.{Json}
 use Rattle.log_forms.specs.declared.stamps.Stamp as forms
+use Rattle.stamps.specs.FrontLines.{lead_of}
 use Rattle.stamps.specs.LineStamps.{byte_order_mark, longest_stamp, stamp_of}
 use Rattle.stamps.specs.Notes.{note_text}
 use Rattle.stamps.specs.Readers.{IsOfOneLine, line_stamp, value_kind}
@@ -28,6 +29,7 @@ use Rattle.stamps.specs.Runs as runs
 use Rattle.stamps.specs.StampTexts.{in_quotes, is_date}
 use Rattle.stamps.specs.Styles.{text_in}
 use Rattle.stamps.specs.declared.decide.Stamp.{Stamp}
+use Rattle.stamps.specs.declared.fronted.Lead.{Lead}
 use Rattle.stamps.specs.declared.notes.Note.TheVariants.{Gap}
 use Rattle.stamps.specs.declared.readers.LineRefusal.{LineRefusal}
 use Rattle.stamps.specs.declared.readers.LineRefusal.TheVariants as line
@@ -167,6 +169,17 @@ WrittenLinesKeepTheOrder =
     (a b : List ℕ) (first second : Stamp) (s t : List ℕ) → stamp_of a ≡ Ok first → stamp_of b ≡ Ok second
     → text_in Utc first.instant ≡ Some s → text_in Utc second.instant ≡ Some t → int_cmp first.instant second.instant ≡ Less
     → slice_cmp nat_cmp (line_written Plain Utc false a) (line_written Plain Utc false b) ≡ Less
+
+-- ---- `merge --to utc`
+
+-- a line with a new front has a stamp of the same instant
+abbrev pub IsReadAgain : List ℕ → LineStamp → Lead → Type 0
+IsReadAgain line stamp lead = (read : Stamp) × (stamp_of (lead.text ++ drop lead.count line) ≡ Ok read) × (read.instant ≡ stamp.instant)
+
+-- the new front of a line in UTC is read again as the instant of the stamp that the line has in its form
+abbrev pub MergedLinesAreRead : Type 0
+MergedLinesAreRead =
+    (mark : ℕ) (line : List ℕ) (stamp : LineStamp) (lead : Lead) → lead_of Utc mark line stamp ≡ Some lead → IsReadAgain line stamp lead
 
 -- ---- `check`
 

@@ -10,6 +10,7 @@ pub mod Durations
 pub mod Faults
 pub mod Files
 pub mod Findings
+pub mod FrontLines
 pub mod Laws
 pub mod LineInstantLemmas
 pub mod LineInstants
@@ -26,3 +27,4 @@ pub mod Tallies
 pub mod Tasks
 pub mod Turns
 pub mod Usage
+pub mod Years

@@ -26,6 +26,8 @@ use Rattle.stamps.specs.declared.reading.ReadingMisuse.{ReadingMisuse}
 use Rattle.stamps.specs.declared.reading.ReadingMisuse.TheVariants as misuse
 use Rattle.stamps.specs.declared.reading.Step.{Step}
 use Rattle.stamps.specs.declared.reading.Step.TheVariants as step
+use Rattle.stamps.specs.declared.task.Style.{Style}
+use Rattle.stamps.specs.declared.task.Style.TheVariants.{Utc, At}
 
 -- ---- the words
 
@@ -37,8 +39,9 @@ kind_of word =
     else (if bytes_eq word (codes "--place") || bytes_eq word (codes "--at") then step.Place
     else (if bytes_eq word (codes "--offset") then step.Offset
     else (if bytes_eq word (codes "--year") then step.Year
+    else (if bytes_eq word (codes "--to") then step.To
     else (if bytes_eq word (codes "--quiet") then step.Quiet
-    else (if bytes_eq word (codes "--list-forms") then step.List else step.Word))))))
+    else (if bytes_eq word (codes "--list-forms") then step.List else step.Word)))))))
 
 -- whether the next word is the value of a word of this kind
 abbrev pub is_valued : Step → Bool
@@ -46,6 +49,7 @@ is_valued step.Form = true
 is_valued step.Place = true
 is_valued step.Offset = true
 is_valued step.Year = true
+is_valued step.To = true
 is_valued _ = false
 
 -- the kind of a word by that of the word before it: an option takes the next word as its value, and after `--` all are files
@@ -58,6 +62,7 @@ abbrev pub twice_of : Step → ReadingMisuse
 twice_of step.Form = misuse.FormTwice
 twice_of step.Place = misuse.PlaceTwice
 twice_of step.Offset = misuse.OffsetTwice
+twice_of step.To = misuse.ToTwice
 twice_of _ = misuse.YearTwice
 
 -- ---- their values
@@ -98,6 +103,10 @@ year_read None = Err misuse.Year
 abbrev pub year_asked : Option (List ℕ) → Result (Option ℤ) ReadingMisuse
 year_asked (Some word) = year_read (year_of word)
 year_asked None = Ok None
+
+-- the style of a merge: UTC, or an offset
+abbrev pub style_asked : List ℕ → Result Style ReadingMisuse
+style_asked word = if bytes_eq word (codes "utc") then Ok Utc else result_map_both At misuse.To (offset_reading_of word)
 
 -- ---- the reader
 
@@ -193,7 +202,9 @@ reading_text misuse.Place = codes "the place '' is unknown: write front, access,
 reading_text misuse.LongPlace = codes "the text of the place has more than 255 bytes: write a shorter one"
 reading_text (misuse.Offset Syntax) = codes "the offset '' has another form: write it as +05:30 or Z"
 reading_text (misuse.Offset (OutOfRange component)) = codes "the offset '' is out of range: write one from -23:59 to +23:59"
-reading_text misuse.Year = codes "the year '' has another form: write its four digits, as 2024"
+reading_text misuse.Year = codes "the year '' has another form: write its four digits, as 2024, FILE=2024 or mtime"
+reading_text misuse.YearFile = codes "--year names the file '', which the command does not read: write the name as there"
+reading_text misuse.YearTime = codes "the input has no time of a last change: add the first year, as --year 2024"
 reading_text misuse.LacksOffset = codes "the form has no offset: add one, as --offset +05:30"
 reading_text misuse.LacksYear = codes "the form has no year: add the first one, as --year 2024"
 reading_text misuse.LacksBoth = codes "the form has no offset and no year: add them, as --offset +05:30 --year 2024"
@@ -201,3 +212,7 @@ reading_text misuse.FormTwice = codes "--form is given twice: leave one out"
 reading_text misuse.PlaceTwice = codes "--place is given twice: leave one out"
 reading_text misuse.OffsetTwice = codes "--offset is given twice: leave one out"
 reading_text misuse.YearTwice = codes "--year is given twice: leave one out"
+reading_text (misuse.To Syntax) = codes "the style '' is unknown: write utc, or an offset, as +05:30"
+reading_text (misuse.To (OutOfRange component)) = codes "the offset '' is out of range: write one from -23:59 to +23:59"
+reading_text misuse.ToAlone = codes "--to goes with merge alone: write utc, or at OFFSET, in place of it"
+reading_text misuse.ToTwice = codes "--to is given twice: leave one out"

@@ -139,7 +139,7 @@ impl<R: Read> Read for Ahead<R> {
 }
 
 // Copies as many bytes as both have, and returns their number.
-fn copy_front(from: &[u8], to: &mut [u8]) -> usize
+pub(crate) fn copy_front(from: &[u8], to: &mut [u8]) -> usize
     ensures count { result ≡ min (length from.now) (length to.old) }
     ensures within { result ≤ length from.now }
     ensures copied { to.new ≡ take result from.now ++ drop result to.old }

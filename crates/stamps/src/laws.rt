@@ -2,7 +2,7 @@
 //! all inputs, and does nothing when it is called.
 ghost use Rattle.stamps.specs.BoundLaws.{BoundsAreExact};
 ghost use Rattle.stamps.specs.Laws.{CheckTellsTheOrder, GapsTellSilences, LinesAreWrittenAlone, SinceAndUntilCutInTwo, StampsAreDateTimes};
-ghost use Rattle.stamps.specs.Laws.{UtcTwiceIsOnce, ValuesStayValues, WrittenLinesKeepTheOrder};
+ghost use Rattle.stamps.specs.Laws.{MergedLinesAreRead, UtcTwiceIsOnce, ValuesStayValues, WrittenLinesKeepTheOrder};
 ghost use Rattle.stamps.specs.Usage.{WordsAskAsTheUsageSays};
 
 /// A text has the stamp that it is read with, and no other: a date-time of RFC 3339 that ends
@@ -65,4 +65,9 @@ pub fn written_lines_keep_the_order()
 /// Words make a request, or are a misuse, exactly where the usage has it so.
 pub fn words_ask_as_the_usage_says()
     ensures { WordsAskAsTheUsageSays }
+{}
+
+/// A line of a merge in UTC is read again as the instant of its stamp.
+pub fn merged_lines_are_read()
+    ensures { MergedLinesAreRead }
 {}

@@ -10,6 +10,7 @@ mod durations;
 mod files;
 mod finding;
 mod first_lines;
+mod fronted;
 mod inputs;
 mod instants;
 mod laws;
@@ -26,6 +27,7 @@ mod style;
 mod tallies;
 mod task;
 mod usage;
+mod years;
 
 use arguments::{Misuse, Request, is, misuse_line, request_of};
 use counts::ClockBuckets;
@@ -34,14 +36,16 @@ use first_lines::Given;
 use log_forms::{FORMS, form_name, sample_of};
 use readers::Reader;
 use reading::{
-    ReadingMisuse, Step, is_valued, kind_of, reader_of, reading_line, step_after, twice_of,
+    ReadingMisuse, Step, is_valued, kind_of, reader_of, reading_line, step_after, style_asked,
+    twice_of,
 };
 use sources::{FAILED, print_line, say};
 use std::alloc::AllocError;
 use std::process::ExitCode;
 use std::{env, io};
-use task::Task;
+use task::{Style, Task};
 use usage::USAGE;
+use years::{is_year, name_in, names_same, year_in};
 
 // The version of the library, which the program has too: make/versions writes it.
 const VERSION_LINE: &str = "stamps 0.1.0";
@@ -73,28 +77,45 @@ struct Asked {
     form: Option<String>,
     place: Option<String>,
     offset: Option<String>,
-    year: Option<String>,
+    years: Vec<String>,
+    to: Option<String>,
     is_quiet: bool,
     options: Vec<String>,
 }
 
 impl Asked {
-    // Keeps the value of an option, and returns whether it is the first one.
-    fn keep(&mut self, option: Step, word: String) -> bool {
+    // Keeps the value of an option, and returns whether it is the first one, or for a year the first
+    // one of its file.
+    fn keep(&mut self, option: Step, word: String) -> Result<bool, AllocError> {
         let value = match option {
             Step::Form => &mut self.form,
             Step::Place => &mut self.place,
             Step::Offset => &mut self.offset,
-            _ => &mut self.year,
+            Step::To => &mut self.to,
+            _ => return self.keep_year(word),
         };
         let is_first = value.is_none();
         *value = Some(word);
-        is_first
+        Ok(is_first)
+    }
+
+    // Keeps a value of `--year`, and returns whether it is the first one of its file.
+    fn keep_year(&mut self, word: String) -> Result<bool, AllocError> {
+        let mut is_first = true;
+        for before in &self.years {
+            is_first &= !names_same(before.as_bytes(), word.as_bytes());
+        }
+        self.years.push(word)?;
+        Ok(is_first)
     }
 
     // Whether they say anything.
     fn is_any(&self) -> bool {
-        self.form.is_some() || self.place.is_some() || self.offset.is_some() || self.year.is_some()
+        self.form.is_some()
+            || self.place.is_some()
+            || self.offset.is_some()
+            || !self.years.is_empty()
+            || self.to.is_some()
     }
 }
 
@@ -116,7 +137,8 @@ fn sort(rt: &HostRuntime, given: Vec<String>) -> Result<Sorted, AllocError> {
         form: None,
         place: None,
         offset: None,
-        year: None,
+        years: Vec::new(rt.alloc()),
+        to: None,
         is_quiet: false,
         options: Vec::new(rt.alloc()),
     };
@@ -126,14 +148,16 @@ fn sort(rt: &HostRuntime, given: Vec<String>) -> Result<Sorted, AllocError> {
         let before = step;
         step = step_after(before, word.as_bytes());
         match step {
-            Step::Form | Step::Place | Step::Offset | Step::Year => asked.options.push(word)?,
+            Step::Form | Step::Place | Step::Offset | Step::Year | Step::To => {
+                asked.options.push(word)?
+            }
             Step::Quiet => {
                 asked.is_quiet = true;
                 asked.options.push(word)?;
             }
             Step::Value => {
                 asked.options.push(word.clone()?)?;
-                if !asked.keep(before, word) {
+                if !asked.keep(before, word)? {
                     return sort_as_misuse(rt, reading_line(twice_of(before)));
                 }
             }
@@ -150,7 +174,13 @@ fn sort(rt: &HostRuntime, given: Vec<String>) -> Result<Sorted, AllocError> {
             )
         }
         Step::Offset => sort_as_misuse(rt, "--offset has no value: add one, as +05:30 or Z"),
-        Step::Year => sort_as_misuse(rt, "--year has no value: add its four digits, as 2024"),
+        Step::Year => {
+            sort_as_misuse(
+                rt,
+                "--year has no value: add its four digits, as 2024, FILE=2024 or mtime",
+            )
+        }
+        Step::To => sort_as_misuse(rt, "--to has no value: add utc, or an offset, as +05:30"),
         _ if lists && (!words.is_empty() || asked.is_any()) => {
             sort_as_misuse(rt, "--list-forms takes no other words: leave them out")
         }
@@ -222,14 +252,46 @@ fn list_forms(rt: &HostRuntime) -> u8 {
     0
 }
 
-// The reader of the words for how stamps are read.
+// The reader of the words for how stamps are read. Any year stands for those that are given: each
+// file has its own.
 fn reader_asked(asked: &Asked) -> Result<Reader, ReadingMisuse> {
     reader_of(
         bytes_if(&asked.form),
         bytes_if(&asked.place),
         bytes_if(&asked.offset),
-        bytes_if(&asked.year),
+        if asked.years.is_empty() {
+            None
+        } else {
+            Some(b"2000")
+        },
     )
+}
+
+// The style in which a merge writes stamps, if one is given.
+fn style_of(asked: &Asked, request: &Request) -> Result<Option<Style>, ReadingMisuse> {
+    match (&asked.to, request) {
+        (None, _) => Ok(None),
+        (Some(word), Request::Merge(_)) => Ok(Some(style_asked(word.as_bytes())?)),
+        (Some(_), _) => Err(ReadingMisuse::ToAlone),
+    }
+}
+
+// The first misuse of the values of `--year`, and what is at fault: one that is no year, or that
+// names no file of the command.
+fn year_misuse<'a>(asked: &'a Asked, files: &[String]) -> Option<(ReadingMisuse, &'a str)> {
+    for value in &asked.years {
+        if !is_year(year_in(value.as_bytes())) {
+            return Some((ReadingMisuse::Year, value.as_str()));
+        }
+        if let Some(name) = name_in(value.as_bytes()) {
+            let is_input = files.is_empty() && is(name, "-");
+            if !is_input && !files.iter().any(|file| file.as_bytes() == name) {
+                let (front, _) = value.as_str().rsplit_once('=').unwrap_or(("", ""));
+                return Some((ReadingMisuse::YearFile, front));
+            }
+        }
+    }
+    None
 }
 
 // The value of the option that a misuse is of.
@@ -238,7 +300,8 @@ fn value_at_fault(asked: &Asked, misuse: ReadingMisuse) -> &str {
         ReadingMisuse::UnknownForm | ReadingMisuse::Description => &asked.form,
         ReadingMisuse::Place => &asked.place,
         ReadingMisuse::Offset(_) => &asked.offset,
-        _ => &asked.year,
+        ReadingMisuse::To(_) => &asked.to,
+        _ => return "",
     };
     match value {
         Some(value) => value.as_str(),
@@ -248,11 +311,13 @@ fn value_at_fault(asked: &Asked, misuse: ReadingMisuse) -> &str {
 
 // How stamps are read, as far as words say it. The first lines of a log choose the form unless a
 // word gives a form or a place.
-fn choice_of<'a>(asked: &'a Asked, words: &'a [String]) -> Given<'a> {
+fn choice_of<'a>(asked: &'a Asked, years: &'a [&'a [u8]], words: &'a [String]) -> Given<'a> {
     Given {
         chooses: asked.form.is_none() && asked.place.is_none(),
+        form: bytes_if(&asked.form),
+        place: bytes_if(&asked.place),
         offset: bytes_if(&asked.offset),
-        year: bytes_if(&asked.year),
+        years,
         is_quiet: asked.is_quiet,
         words,
         options: asked.options.as_slice(),
@@ -269,19 +334,27 @@ fn bytes_if(word: &Option<String>) -> Option<&[u8]> {
 
 // Does what the words ask for, without those for how stamps are read.
 fn obey(rt: &HostRuntime, given: &[String], files: &[String], asked: &Asked) -> ExitCode {
-    let Ok(words) = bytes_of(rt, given) else {
+    let (Ok(words), Ok(years)) = (bytes_of(rt, given), bytes_of(rt, asked.years.as_slice())) else {
         say(rt, "", "no memory is left");
         return ExitCode::from(FAILED);
     };
     match request_of(words.as_slice()) {
         Ok(Request::Help) => ExitCode::from(print_line(rt, USAGE)),
         Ok(Request::Version) => ExitCode::from(print_line(rt, VERSION_LINE)),
-        Ok(request) => match reader_asked(asked) {
-            Ok(reader) => run(rt, job_of(request, reader), choice_of(asked, given), files),
-            Err(misuse) => {
-                report_misuse(rt, reading_line(misuse), value_at_fault(asked, misuse))
+        Ok(request) => {
+            if let Some((misuse, word)) = year_misuse(asked, files) {
+                return report_misuse(rt, reading_line(misuse), word);
             }
-        },
+            match (reader_asked(asked), style_of(asked, &request)) {
+                (Ok(reader), Ok(to)) => {
+                    let choice = choice_of(asked, years.as_slice(), given);
+                    run(rt, job_of(request, reader, to), choice, files)
+                }
+                (Err(misuse), _) | (_, Err(misuse)) => {
+                    report_misuse(rt, reading_line(misuse), value_at_fault(asked, misuse))
+                }
+            }
+        }
         Err(misuse) => {
             report_misuse(
                 rt,
@@ -332,12 +405,12 @@ fn report_misuse(rt: &HostRuntime, text: &str, word: &str) -> ExitCode {
 enum Job {
     Work(Task),
     Count(ClockBuckets, bool),
-    Merge(Reader, bool),
+    Merge(Reader, Option<Style>, bool),
     Nothing,
 }
 
 // The job of a request, by how stamps are read.
-fn job_of(request: Request, reader: Reader) -> Job {
+fn job_of(request: Request, reader: Reader, to: Option<Style>) -> Job {
     match request {
         Request::Help | Request::Version => Job::Nothing,
         Request::Work(action) => Job::Work(Task { action, reader }),
@@ -349,7 +422,7 @@ fn job_of(request: Request, reader: Reader) -> Job {
             },
             is_strict,
         ),
-        Request::Merge(is_strict) => Job::Merge(reader, is_strict),
+        Request::Merge(is_strict) => Job::Merge(reader, to, is_strict),
     }
 }
 
@@ -360,6 +433,8 @@ fn run(rt: &HostRuntime, job: Job, given: Given<'_>, files: &[String]) -> ExitCo
         Job::Nothing => 0,
         Job::Work(task) => inputs::run(rt, &task, given, words, files),
         Job::Count(buckets, is_strict) => counts::run(rt, &buckets, is_strict, given, words, files),
-        Job::Merge(reader, is_strict) => merges::run(rt, reader, is_strict, given, words, files),
+        Job::Merge(reader, to, is_strict) => {
+            merges::run(rt, reader, to, is_strict, given, words, files)
+        }
     })
 }

@@ -6,21 +6,25 @@ ghost use Rattle.stamps.specs.MergeFaults.{merge_status};
 
 use crate::files::is_compressed;
 use crate::finding::{Cause, Finding};
-use crate::first_lines::{Given, reader_chosen};
+use crate::first_lines::{Given, reader_chosen, reader_or};
+use crate::fronted::{Turned, Turning};
 use crate::instants::StampInstants;
 use crate::readers::Reader;
+use crate::reading::ReadingMisuse;
 use crate::sources::{FAILED, Input, clear_progress, say, say_compressed, say_unwritten};
 use crate::tallies::tell_tally;
+use crate::task::Style;
 use line_devices::devices::{Device, Source};
 use line_merges::logs::Log;
 use line_merges::merges::{MergeFault, add, merge};
 use std::alloc::AllocError;
 
 /// Merges the files, or writes standard input where there are none, and returns the exit status.
-/// The words are those before the files.
+/// The words are those before the files. With a style, each line has its stamp in front, in it.
 pub fn run(
     rt: &HostRuntime,
     reader: Reader,
+    to: Option<Style>,
     is_strict: bool,
     given: Given<'_>,
     words: &[String],
@@ -52,11 +56,15 @@ pub fn run(
             return FAILED;
         };
         let said = if names.is_empty() { "" } else { name };
-        let own = match reader_chosen(rt, given, &instants.reader, said, &mut input) {
+        let mut own = match reader_chosen(rt, given, &instants.reader, said, &mut input) {
             Ok(own) => own,
             Err(status) => return status,
         };
         shows_progress |= input.inner().shows_progress();
+        let Ok(turning) = turning_of(&to, &mut own, given) else {
+            return FAILED;
+        };
+        let input = Turned::new(input, turning, rt.alloc());
         if add_log(&mut instants, &mut logs, own, Device::new(input)).is_err() {
             say(rt, "", "no memory is left");
             return FAILED;
@@ -83,6 +91,23 @@ pub fn run(
         }
     }
     merge_status(&ended, is_found)
+}
+
+// How a log gets its stamps in front, if a style is given. Then the merge reads RFC 3339 in front, and the log is read as before.
+fn turning_of(
+    to: &Option<Style>,
+    own: &mut Option<Reader>,
+    given: Given<'_>,
+) -> Result<Option<Turning>, ReadingMisuse> {
+    let Some(style) = to else {
+        return Ok(None);
+    };
+    let reader = reader_or(own.take(), given)?;
+    *own = Some(Reader::Plain);
+    Ok(Some(Turning {
+        style: *style,
+        reader,
+    }))
 }
 
 // Adds the log of a reader, and how its stamps are read. Both have the number of the logs before.

@@ -3,11 +3,12 @@ ghost use Rattle.std.specs.Prelude.{◌≡◌, ◌≤◌, drop, length, option_m
 ghost use Rattle.stamps.specs.Reading.{is_valued, needs_lines_before};
 ghost use Rattle.stamps.specs.Reading.{form_asked, is_front, kind_of, offset_asked, place_asked, place_text, plain_reader};
 ghost use Rattle.stamps.specs.Reading.{reader_of, reader_with, reading_text};
-ghost use Rattle.stamps.specs.Reading.{step_after, twice_of, whole_reader, year_asked, year_of};
+ghost use Rattle.stamps.specs.Reading.{step_after, style_asked, twice_of, whole_reader, year_asked, year_of};
 
 use crate::arguments::is;
 use crate::files::is_dashes;
 use crate::readers::{FormReader, MOST_TEXT, PlaceText, Reader};
+use crate::task::Style;
 use calendar_values::UtcOffset;
 use log_forms::{
     Assumed, Form, FormName, Place, described_form, lacks_offset, lacks_year, name_of, named_form,
@@ -28,6 +29,8 @@ pub enum Step {
     Offset,
     /// `--year`.
     Year,
+    /// `--to`.
+    To,
     /// `--quiet`.
     Quiet,
     /// `--list-forms`.
@@ -54,7 +57,7 @@ pub fn is_valued(step: Step) -> bool
     ensures { result ≡ is_valued step }
 {
     match step {
-        Step::Form | Step::Place | Step::Offset | Step::Year => true,
+        Step::Form | Step::Place | Step::Offset | Step::Year | Step::To => true,
         Step::Word | Step::Quiet | Step::List | Step::Value | Step::File => false,
     }
 }
@@ -73,6 +76,8 @@ pub fn kind_of(word: &[u8]) -> Step
         Step::Offset
     } else if is(word, "--year") {
         Step::Year
+    } else if is(word, "--to") {
+        Step::To
     } else if is(word, "--quiet") {
         Step::Quiet
     } else if is(word, "--list-forms") {
@@ -97,6 +102,10 @@ pub enum ReadingMisuse {
     Offset(TextRefusal),
     /// The year is invalid.
     Year,
+    /// The year is that of a file which is not named.
+    YearFile,
+    /// The time of the last change of a file gives the year, and the input has none.
+    YearTime,
     /// The form has no offset, and none is given.
     LacksOffset,
     /// The form has no year, and none is given.
@@ -111,6 +120,12 @@ pub enum ReadingMisuse {
     OffsetTwice,
     /// `--year` is given twice.
     YearTwice,
+    /// The style of a merge is invalid.
+    To(TextRefusal),
+    /// A style is given for another word than `merge`.
+    ToAlone,
+    /// `--to` is given twice.
+    ToTwice,
 }
 
 /// The misuse of an option that is given twice.
@@ -121,6 +136,7 @@ pub fn twice_of(option: Step) -> ReadingMisuse
         Step::Form => ReadingMisuse::FormTwice,
         Step::Place => ReadingMisuse::PlaceTwice,
         Step::Offset => ReadingMisuse::OffsetTwice,
+        Step::To => ReadingMisuse::ToTwice,
         _ => ReadingMisuse::YearTwice,
     }
 }
@@ -217,7 +233,7 @@ pub(crate) fn year_asked(year: Option<&[u8]>) -> Result<Option<i32>, ReadingMisu
 }
 
 // The year of four digits.
-fn year_of(word: &[u8]) -> Option<i32>
+pub(crate) fn year_of(word: &[u8]) -> Option<i32>
     ensures { result ≡ year_of word.now }
 {
     let [a, b, c, d] = word else {
@@ -326,6 +342,19 @@ pub(crate) fn whole_reader(
     }))
 }
 
+/// The style that a word names: `utc`, or an offset.
+pub fn style_asked(word: &[u8]) -> Result<Style, ReadingMisuse>
+    ensures { result ≡ style_asked word.now }
+{
+    if is(word, "utc") {
+        return Ok(Style::Utc);
+    }
+    match parse_rfc3339_offset(word) {
+        Ok(offset) => Ok(Style::At(offset)),
+        Err(refusal) => Err(ReadingMisuse::To(refusal)),
+    }
+}
+
 /// Whether the stamps that a reader finds depend on the lines before.
 pub fn needs_lines_before(reader: &Reader) -> bool
     ensures { result ≡ needs_lines_before reader.now }
@@ -353,7 +382,12 @@ pub fn reading_line(misuse: ReadingMisuse) -> &'static str
             "the offset '' has another form: write it as +05:30 or Z",
         ReadingMisuse::Offset(TextRefusal::OutOfRange(_)) =>
             "the offset '' is out of range: write one from -23:59 to +23:59",
-        ReadingMisuse::Year => "the year '' has another form: write its four digits, as 2024",
+        ReadingMisuse::Year =>
+            "the year '' has another form: write its four digits, as 2024, FILE=2024 or mtime",
+        ReadingMisuse::YearFile =>
+            "--year names the file '', which the command does not read: write the name as there",
+        ReadingMisuse::YearTime =>
+            "the input has no time of a last change: add the first year, as --year 2024",
         ReadingMisuse::LacksOffset => "the form has no offset: add one, as --offset +05:30",
         ReadingMisuse::LacksYear => "the form has no year: add the first one, as --year 2024",
         ReadingMisuse::LacksBoth =>
@@ -362,5 +396,12 @@ pub fn reading_line(misuse: ReadingMisuse) -> &'static str
         ReadingMisuse::PlaceTwice => "--place is given twice: leave one out",
         ReadingMisuse::OffsetTwice => "--offset is given twice: leave one out",
         ReadingMisuse::YearTwice => "--year is given twice: leave one out",
+        ReadingMisuse::To(TextRefusal::Syntax) =>
+            "the style '' is unknown: write utc, or an offset, as +05:30",
+        ReadingMisuse::To(TextRefusal::OutOfRange(_)) =>
+            "the offset '' is out of range: write one from -23:59 to +23:59",
+        ReadingMisuse::ToAlone =>
+            "--to goes with merge alone: write utc, or at OFFSET, in place of it",
+        ReadingMisuse::ToTwice => "--to is given twice: leave one out",
     }
 }

@@ -9,7 +9,8 @@ use line_devices::devices::Device;
 use std::fs::{File, metadata};
 use std::io;
 use std::io::{ErrorKind, IsTerminal, Read, Stdin};
-use std::time::Instant;
+use std::time::{Instant, UNIX_EPOCH};
+use utc_times::UtcDateTime;
 
 /// The status after an error, as after a failed read or write.
 pub const FAILED: u8 = 2;
@@ -101,6 +102,31 @@ impl Read for Input<'_> {
             show(self.rt, progress, count);
         }
         Ok(count)
+    }
+}
+
+/// The instant of the last change of a file, if it is known: that of standard input and of a pipe
+/// is not.
+pub fn time_of_change(rt: &HostRuntime, name: &str) -> Option<UtcDateTime> {
+    if name == "-" {
+        return None;
+    }
+    let changed = match metadata(rt, name) {
+        Ok(found) if found.is_file() => found.modified(),
+        _ => return None,
+    };
+    let Ok(changed) = changed else {
+        return None;
+    };
+    let Ok(since) = changed.duration_since(UNIX_EPOCH) else {
+        return None;
+    };
+    let Ok(seconds) = i64::try_from(since.as_secs()) else {
+        return None;
+    };
+    match UtcDateTime::from_unix_timestamp(seconds) {
+        Ok(at) => Some(at),
+        Err(_) => None,
     }
 }
 

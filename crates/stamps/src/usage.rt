@@ -10,7 +10,7 @@ pub const USAGE: &str = "usage: stamps WORD [FILE..]
   count UNIT [at OFFSET] [--all] [--strict]  write the number of lines in each minute, hour or day
   since DATE-TIME                            write the lines from this instant on
   until DATE-TIME                            write the lines before this instant
-  merge [--strict]                           write the lines of all files in the order of their instants
+  merge [--to STYLE] [--strict]              write the lines of all files in the order of their instants
   --list-forms                               print each form and a sample of it
   --help                                     print this usage
   --version                                  print the version
@@ -20,7 +20,9 @@ With --all check prints every line at fault, and count each row of 0.
 With --form FORM stamps have a form by its name, or by a description, as [day]/[month]/[year].
 With --place PLACE they are at front, access, coloured, field:N, after:TEXT or json:NAME.
 With --offset OFFSET those without an offset have this one, as +05:30 or Z.
-With --year YEAR the first of those without a year has this one.
+With --year YEAR the first of those without a year has this one, with --year FILE=YEAR that of FILE.
+With --year mtime it has the latest that is not after the last change of its file.
+With --to STYLE merge writes each stamp in front of its line: in utc, or at an offset, as +05:30.
 With --quiet stamps leaves out its notes, but no error.
 Without --form and --place the first lines of each FILE choose both.
 With --form alone the place is front. With --place alone the form is rfc3339.
