@@ -1,11 +1,11 @@
 -- The best of the first readers is the first that finds the most stamps.
-use Rattle.std.proofs.Common.{◌≡◌, ◌==◌, ℕ, zero, suc, ◌<◌, ◌≤◌, Bool, true, false, ◌&&◌, List, [], ◌∷◌, length, refl, arith, nat_lt}
+use Rattle.std.proofs.Common.{◌≡◌, ℕ, zero, suc, ◌<◌, ◌≤◌, Bool, true, false, List, [], ◌∷◌, length, refl, arith, nat_lt}
 use Rattle.std.proofs.Common.{Option, Some, None, Result, Ok, Err, inl, inr}
 use Rattle.std.proofs.lemmas.Bool.{cases_Bool}
 use Rattle.std.proofs.lemmas.Bool.Decides.{nat_tests}
-use Rattle.std.specs.Prelude.{◌||◌, nat_le, if◌then◌else◌}
-use Rattle.log_forms.specs.Choices.{best_of, better_of, choice_of, count_in, count_read, found_by, if_both, is_sure, most, one_more}
-use Rattle.log_forms.specs.Choices.{reader_form, reader_key, reader_place, some_year, steady_by}
+use Rattle.std.specs.Prelude.{if◌then◌else◌}
+use Rattle.log_forms.specs.Choices.{best_of, better_of, choice_of, count_in, count_read, found_by, if_both, most, one_more}
+use Rattle.log_forms.specs.Choices.{reader_form, reader_key, reader_place, some_year}
 use Rattle.log_forms.specs.Forms.{form_named}
 use Rattle.log_forms.specs.Stamps.{stamp_at}
 use Rattle.log_forms.specs.declared.choice.TheConstants.{READERS}
@@ -93,9 +93,7 @@ cond-most true count k most = most
 cond-most false count k most = omega (arith)
 
 count_read-most : (reader : ℕ) (lines : List (List ℕ)) → count_read reader lines ≤ length lines
-count_read-most reader lines =
-    cond-most ((found_by reader lines == 0) || is_sure reader lines || (nat_le 2 (found_by reader lines) && steady_by reader lines))
-    (found_by reader lines) (length lines) (found_by-most reader lines)
+count_read-most reader lines = cond-most _ (found_by reader lines) (length lines) (found_by-most reader lines)
 
 -- the choice by both of the first two lines, and by all lines
 pub both-chosen : (first second : List ℕ) (lines : List (List ℕ)) (reader : ℕ) → reader < READERS
