@@ -10,6 +10,7 @@ ghost use Rattle.stamps.specs.Decisions.{as_note, going_on, stop_if};
 ghost use Rattle.stamps.specs.Decisions.{goes_on, is_earlier, is_first, last_of, later_of, latest_of, line_kind, rewritten, state_after, state_by};
 ghost use Rattle.stamps.specs.LineInstants.{stamp_instant};
 ghost use Rattle.stamps.specs.LineStamps.{ends, front_stamp, has_mark, stamp, stamp_of};
+ghost use Rattle.log_forms.specs.Ends.{runs_on};
 ghost use Rattle.stamps.specs.Readers.{line_stamp, plain_at};
 ghost use Rattle.stamps.specs.Styles.{text_in};
 ghost use Rattle.stamps.specs.declared.decide.Decision.TheVariants.{Keep};
@@ -175,7 +176,9 @@ fn update(action: &Action, state: &mut State, line: &[u8], stamp: &Result<LineSt
 {
     state.lines = state.lines.saturating_add(1);
     state.last = last_of(state.last, stamp);
-    state.latest = latest_of(action, state.latest, stamp);
+    if let Action::Gaps(_, _) = action {
+        state.latest = latest_of(action, state.latest, stamp);
+    }
     state.goes_on = goes_on(action, state.goes_on, stamp);
     match stamp {
         Ok(_) => state.tally.texts = state.tally.texts.saturating_add(1),
@@ -336,7 +339,18 @@ pub(crate) fn byte_at(text: &[u8], place: usize) -> Option<u8>
 fn ends(length: usize, rest: &[u8]) -> bool
     ensures { result ≡ ends length rest.now }
 {
-    !(length > LONGEST_STAMP || runs_on(false, rest))
+    !(length > LONGEST_STAMP || is_continued(rest))
+}
+
+// Whether a word continues in the rest of a line. Of most lines the first byte is a blank.
+#[inline(always)]
+fn is_continued(rest: &[u8]) -> bool
+    ensures { result ≡ runs_on false rest.now }
+{
+    match rest {
+        [b' ', ..] => false,
+        _ => runs_on(false, rest),
+    }
 }
 
 // Whether a line is written.
