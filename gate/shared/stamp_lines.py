@@ -207,13 +207,13 @@ def merge_of(logs, is_strict, finds=None):
     return text_of(texts), sorted(backs.items())
 
 
-# A byte that continues a date-time.
-CONTINUES = re.compile(rb"[0-9A-Za-z+.:-]")
+# What continues a word behind a date-time.
+CONTINUES = re.compile(rb"[0-9A-Za-z+-]|[.:][0-9A-Za-z]")
 
 
 def front_lines(data, offset, find=stamp_of):
     """A log whose lines have their stamps in front at an offset of so many minutes, as `merge --to` reads it: in place of a stamp that
-    begins its line and that no byte continues, and else before the line with a blank. A byte order mark before a stamp goes away.
+    begins its line and whose word ends there, and else before the line with a blank. A byte order mark before a stamp goes away.
     """
     made = []
     for number, line in enumerate(re.findall(rb"[^\n]*\n|[^\n]+", data), 1):

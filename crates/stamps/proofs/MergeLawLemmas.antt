@@ -8,8 +8,7 @@ use Rattle.offset_times.specs.InstantLemmas.{instant_of-utc}
 use Rattle.offset_times.specs.Local.{instant_of, local_in_utc}
 use Rattle.rfc3339.specs.Texts.{HasFixedText, fixed_text, parts_of}
 use Rattle.rfc3339.specs.ValueLemmas.{IsDateTime-fixed, length-fixed_text, meaning-fixed}
-use Rattle.stamps.specs.FrontLines.{is_replaced, lead_by, with_blank}
-use Rattle.stamps.specs.Laws.{IsReadAgain, MergedLinesAreRead}
+use Rattle.stamps.specs.FrontLines.{is_replaced, lead_by, lead_of, with_blank}
 use Rattle.stamps.specs.LineStamps.{stamp, stamp_of}
 use Rattle.stamps.specs.Styles.{text_in}
 use Rattle.stamps.specs.declared.decide.Stamp.{Stamp}
@@ -18,6 +17,10 @@ use Rattle.stamps.specs.declared.readers.LineStamp.{LineStamp}
 use Rattle.stamps.specs.declared.task.Style.TheVariants.{Utc}
 use Rattle.stamps.proofs.StampLawLemmas.{stamp_again}
 use Rattle.stamps.proofs.UtcLawLemmas.{fixed_of}
+
+-- a line with a new front has a stamp of the same instant
+abbrev IsRead : List ℕ → LineStamp → Lead → Type 0
+IsRead line stamp lead = (read : Stamp) × (stamp_of (lead.text ++ drop lead.count line) ≡ Ok read) × (read.instant ≡ stamp.instant)
 
 -- a text of fixed width before what does not continue it
 fixed-read : (i : ℤ) (rest : List ℕ) → HasFixedText i → runs_on false rest ≡ false
@@ -42,7 +45,7 @@ ends_of mark line stamp e =
 
 read_in_place : (line : List ℕ) (stamp : LineStamp) (text : List ℕ) → text_in Utc stamp.instant ≡ Some text
     → runs_on false (drop (stamp.start + stamp.length) line) ≡ false
-    → IsReadAgain line stamp (record { text = text; count = stamp.start + stamp.length })
+    → IsRead line stamp (record { text = text; count = stamp.start + stamp.length })
 read_in_place line stamp text e ends =
     let n = stamp.start + stamp.length in
     let fixed = fixed_of stamp.instant text e in
@@ -50,7 +53,7 @@ read_in_place line stamp text e ends =
     (found.0, ap (λ (z : List ℕ). stamp_of (z ++ drop n line)) fixed.1 ∙ found.1, found.2)
 
 read_before_blank : (mark : ℕ) (line : List ℕ) (stamp : LineStamp) (text : List ℕ) → text_in Utc stamp.instant ≡ Some text
-    → IsReadAgain line stamp (record { text = with_blank text; count = mark })
+    → IsRead line stamp (record { text = with_blank text; count = mark })
 read_before_blank mark line stamp text e =
     let rest = drop mark line in
     let fixed = fixed_of stamp.instant text e in
@@ -65,12 +68,13 @@ lead_is a b e = cc
 
 read_by : (replaces : Bool) (mark : ℕ) (line : List ℕ) (stamp : LineStamp) (o : Option (List ℕ)) (lead : Lead)
     → is_replaced mark line stamp ≡ replaces → text_in Utc stamp.instant ≡ o → lead_by replaces mark stamp o ≡ Some lead
-    → IsReadAgain line stamp lead
+    → IsRead line stamp lead
 read_by replaces mark line stamp None lead e f h = absurd cc
 read_by true mark line stamp (Some text) lead e f h =
-    subst (IsReadAgain line stamp) (lead_is _ lead h) (read_in_place line stamp text f (ends_of mark line stamp e))
+    subst (IsRead line stamp) (lead_is _ lead h) (read_in_place line stamp text f (ends_of mark line stamp e))
 read_by false mark line stamp (Some text) lead e f h =
-    subst (IsReadAgain line stamp) (lead_is _ lead h) (read_before_blank mark line stamp text f)
+    subst (IsRead line stamp) (lead_is _ lead h) (read_before_blank mark line stamp text f)
 
-pub read_again : MergedLinesAreRead
+pub read_again : (mark : ℕ) (line : List ℕ) (stamp : LineStamp) (lead : Lead) → lead_of Utc mark line stamp ≡ Some lead
+    → (read : Stamp) × (stamp_of (lead.text ++ drop lead.count line) ≡ Ok read) × (read.instant ≡ stamp.instant)
 read_again mark line stamp lead h = read_by (is_replaced mark line stamp) mark line stamp (text_in Utc stamp.instant) lead refl refl h
