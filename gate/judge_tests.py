@@ -39,6 +39,18 @@ def is_judged(verdict, *rows, printed=WITH_WRONG_BODIES):
         assert found is verdict, f"{function}, {clause}: {found}, {told}"
 
 
+def a_crate_of_which_nothing_is_kept_has_a_line():
+    """What it lacks, how long that takes, and the command that keeps it; a crate that is proved has none."""
+    for waiting, has_kept, is_proved, wanted in (
+        (["low"], False, False, ("low below it must be built first", "minutes", "`rt lib`")),
+        ([], False, False, ("no check of it is kept", "one to seven minutes", "`rt check` in crates/one")),
+        ([], True, False, ("no whole check since its last change", "five minutes")),
+        ([], True, True, ()),
+    ):
+        said = refused.lack_of("one", waiting, has_kept, is_proved) or ""
+        assert all(words in said for words in wanted) and bool(said) == bool(wanted), said
+
+
 def a_body_that_fails_at_its_clause_is_refused():
     is_judged(True, ("devices::DeviceSink::write_some", "last"), ("table::Table::items", "value"))
 

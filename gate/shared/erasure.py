@@ -434,6 +434,25 @@ class Source:
                 found.append((place, *(owners[-1][1:] if owners else ("free", "", None))))
         return found
 
+    def parts(self):
+        """The words of each function that could be const, by its key, and the words of no function, without imports."""
+        found, inside = {}, set()
+        for place, kind, owner, _ in self.functions():
+            head = self.end_of_head(place)
+            words = range(place, self.closes.get(head, head) + 1)
+            inside.update(range(self.start_of_attributes(self.start_of_item(place)), place), words)
+            if kind in ("own", "free"):
+                found[self.key(place, owner)] = self.words_left(words)
+        for place, type_name, _ in self.inherent():
+            found[self.key(place, type_name)] = self.words_left(range(place, self.closes[self.end_of_head(place)] + 1))
+        for place, token in enumerate(self.code):
+            if token.text == "use" and place not in inside:
+                inside.update(range(place, next(it for it in range(place, len(self.code)) if self.code[it].text == ";")))
+        return found, self.words_left(it for it in range(len(self.code)) if it not in inside)
+
+    def words_left(self, places):
+        return " ".join(self.code[it].text for it in places if not self.code[it].reason)
+
     def key(self, place, owner):
         """How lists name a function."""
         file = self.path.removeprefix("crates/").replace("/src/", "/")
@@ -748,12 +767,12 @@ def shim_names(root=REPOSITORY):
 
 
 def erase_all(root=REPOSITORY, const=None):
-    """The erased text of each file before it is laid out, by its name below its folder, the counts of what differs, and the keys of the
-    functions that could be const."""
+    """The erased text of each file before it is laid out, by its name below its folder, the counts of what differs, the words of
+    each function that could be const, by its key, and the words of no function, by their files."""
     lists, shim = Lists(root), shim_names(root)
     if const is not None:
         lists.const = const
-    made, counts, keys, found, closed = {}, {}, [], [], {}
+    made, counts, functions, found, closed, rest = {}, {}, {}, [], {}, []
     for crate, path in sources(root):
         name = os.path.join("crates", crate, "src", path)
         source = Source(name, read_text(os.path.join(root, name)), crate, lists)
@@ -767,11 +786,12 @@ def erase_all(root=REPOSITORY, const=None):
         text = examples_of_rust(source, source.text_left())
         head = f"// Made by make/erase of {source.path}. Do not edit.\n"
         made[erased_name(crate, path)] = head + text
-        keys += [source.key(place, owner) for place, kind, owner, _ in source.functions() if kind in ("own", "free")]
-        keys += [source.key(place, type_name) for place, type_name, _ in source.inherent()]
+        own, others = source.parts()
+        functions.update(own)
+        rest.append((source.path, others))
         for reason, count in source.counts.items():
             counts[reason] = counts.get(reason, 0) + count
-    return made, counts, keys
+    return made, counts, functions, rest
 
 
 def made_names(root=REPOSITORY):
