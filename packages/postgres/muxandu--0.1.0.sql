@@ -391,6 +391,54 @@ CREATE OPERATOR CLASS exact_duration_minmax_ops DEFAULT FOR TYPE exact_duration 
 CREATE FUNCTION offset_timestamp_subtype_diff(offset_timestamp, offset_timestamp) RETURNS double precision
     LANGUAGE C IMMUTABLE STRICT PARALLEL SAFE AS 'MODULE_PATHNAME', 'offset_timestamp_subtype_diff';
 CREATE TYPE offset_timestamp_range AS RANGE (SUBTYPE = offset_timestamp, SUBTYPE_DIFF = offset_timestamp_subtype_diff);
+CREATE FUNCTION offset_timestamp_gist_compress(internal) RETURNS internal
+    LANGUAGE C IMMUTABLE STRICT PARALLEL SAFE AS 'MODULE_PATHNAME', 'offset_timestamp_gist_compress';
+CREATE FUNCTION offset_timestamp_gist_fetch(internal) RETURNS internal
+    LANGUAGE C IMMUTABLE STRICT PARALLEL SAFE AS 'MODULE_PATHNAME', 'offset_timestamp_gist_fetch';
+CREATE FUNCTION offset_timestamp_gist_union(internal, internal) RETURNS offset_timestamp_range
+    LANGUAGE internal IMMUTABLE STRICT PARALLEL SAFE AS 'range_gist_union';
+CREATE FUNCTION offset_timestamp_gist_consistent(internal, offset_timestamp, smallint, oid, internal) RETURNS boolean
+    LANGUAGE C IMMUTABLE STRICT PARALLEL SAFE AS 'MODULE_PATHNAME', 'offset_timestamp_gist_consistent';
+CREATE OPERATOR CLASS offset_timestamp_gist_ops DEFAULT FOR TYPE offset_timestamp USING gist AS
+    OPERATOR 1 <, OPERATOR 2 <=, OPERATOR 3 =, OPERATOR 4 >=, OPERATOR 5 >, OPERATOR 6 <>,
+    FUNCTION 1 offset_timestamp_gist_consistent(internal, offset_timestamp, smallint, oid, internal),
+    FUNCTION 2 offset_timestamp_gist_union(internal, internal),
+    FUNCTION 3 offset_timestamp_gist_compress(internal),
+    FUNCTION 5 range_gist_penalty(internal, internal, internal),
+    FUNCTION 6 range_gist_picksplit(internal, internal),
+    FUNCTION 7 range_gist_same(anyrange, anyrange, internal),
+    FUNCTION 9 offset_timestamp_gist_fetch(internal),
+    STORAGE offset_timestamp_range;
+CREATE FUNCTION offset_timestamp_distance(offset_timestamp, offset_timestamp) RETURNS double precision
+    LANGUAGE C IMMUTABLE STRICT PARALLEL SAFE AS 'MODULE_PATHNAME', 'offset_timestamp_distance';
+-- PostgreSQL 13 has neither of these classes.
+DO $$ BEGIN
+    IF current_setting('server_version_num')::integer < 140000 THEN
+        RETURN;
+    END IF;
+    CREATE OPERATOR CLASS offset_timestamp_minmax_multi_ops FOR TYPE offset_timestamp USING brin AS
+        OPERATOR 1 <, OPERATOR 2 <=, OPERATOR 3 =, OPERATOR 4 >=, OPERATOR 5 >,
+        FUNCTION 1 brin_minmax_multi_opcinfo(internal),
+        FUNCTION 2 brin_minmax_multi_add_value(internal, internal, internal, internal),
+        FUNCTION 3 brin_minmax_multi_consistent(internal, internal, internal, integer),
+        FUNCTION 4 brin_minmax_multi_union(internal, internal, internal),
+        FUNCTION 5 brin_minmax_multi_options(internal),
+        FUNCTION 11 offset_timestamp_distance(offset_timestamp, offset_timestamp);
+    ALTER OPERATOR FAMILY offset_timestamp_minmax_multi_ops USING brin ADD
+        OPERATOR 1 < (offset_timestamp, timestamptz),
+        OPERATOR 2 <= (offset_timestamp, timestamptz),
+        OPERATOR 3 = (offset_timestamp, timestamptz),
+        OPERATOR 4 >= (offset_timestamp, timestamptz),
+        OPERATOR 5 > (offset_timestamp, timestamptz);
+    CREATE OPERATOR CLASS offset_timestamp_bloom_ops FOR TYPE offset_timestamp USING brin AS
+        OPERATOR 1 =,
+        FUNCTION 1 brin_bloom_opcinfo(internal),
+        FUNCTION 2 brin_bloom_add_value(internal, internal, internal, internal),
+        FUNCTION 3 brin_bloom_consistent(internal, internal, internal, integer),
+        FUNCTION 4 brin_bloom_union(internal, internal, internal),
+        FUNCTION 5 brin_bloom_options(internal),
+        FUNCTION 11 offset_timestamp_hash(offset_timestamp);
+END $$;
 
 -- Aggregates
 CREATE AGGREGATE max(offset_timestamp) (

@@ -73,12 +73,19 @@ FUNCTION(offset_timestamp_in_range) {
     PG_RETURN_BOOL(is_upper ? order <= 0 : order >= 0);
 }
 
-/* The seconds from the second to the first, for the penalties of an index of ranges. */
-FUNCTION(offset_timestamp_subtype_diff) {
+/* The seconds between two instants, nearly: indexes ask which of their ranges are near. */
+static double seconds_between(const OffsetTimestamp *later, const OffsetTimestamp *earlier) {
     MuxanduDuration apart;
-    require(muxandu_timestamp_difference(instant_of(GET_TIMESTAMP(0)), instant_of(GET_TIMESTAMP(1)), &apart),
-            DURATION_NAME);
-    PG_RETURN_FLOAT8((double)apart.seconds + apart.nanoseconds / 1e9);
+    require(muxandu_timestamp_difference(instant_of(later), instant_of(earlier), &apart), DURATION_NAME);
+    return (double)apart.seconds + apart.nanoseconds / 1e9;
+}
+
+FUNCTION(offset_timestamp_subtype_diff) {
+    PG_RETURN_FLOAT8(seconds_between(GET_TIMESTAMP(0), GET_TIMESTAMP(1)));
+}
+
+FUNCTION(offset_timestamp_distance) {
+    PG_RETURN_FLOAT8(seconds_between(GET_TIMESTAMP(1), GET_TIMESTAMP(0)));
 }
 
 /* A series: its next value, its last, and the step. */
