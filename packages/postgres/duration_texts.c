@@ -5,6 +5,8 @@
 
 static const Unit SECOND = {"second", MUXANDU_UNIT_SECOND, NANOSECONDS};
 
+static const char *const MONTHS[] = {"month", "mon", "quarter", "year"};
+
 /* A number of a text: its digits without the point, and how many of them come after it. */
 typedef struct Decimal {
     int128 digits;
@@ -105,6 +107,18 @@ MuxanduStatus read_duration(const char *text, int128 *nanoseconds, size_t *fault
         at = skip_blanks(text, at);
     } while (status == MUXANDU_OK && text[at] != '\0');
     return status;
+}
+
+bool has_months(const char *text) {
+    for (size_t at = strcspn(text, "0123456789"); text[at] != '\0'; at += strcspn(text + at, "0123456789")) {
+        size_t start = skip_blanks(text, at + 1), end = start;
+        while (is_letter(text[end])) end++;
+        for (size_t word = 0; word < lengthof(MONTHS); word++) {
+            if (is_named(text + start, end - start, MONTHS[word])) return true;
+        }
+        at++;
+    }
+    return false;
 }
 
 void write_duration(const ExactDuration *duration, char *text) {

@@ -12,6 +12,11 @@ enum { DURATION_ROOM = 32 };
  * of the first byte that has not the form. */
 MuxanduStatus read_duration(const char *text, int128 *nanoseconds, size_t *fault);
 
+/* Whether a text has a number of months or years, whose length is not fixed. */
+bool has_months(const char *text);
+
+#define MONTH_HINT "Months and years have no fixed length: use add_months or date_trunc."
+
 /* Writes the seconds as a decimal, with no zeros at the end of the fraction. */
 void write_duration(const ExactDuration *duration, char *text);
 

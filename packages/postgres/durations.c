@@ -29,11 +29,12 @@ ExactDuration *from_nanoseconds(int128 nanoseconds) {
 
 FUNCTION(exact_duration_in) {
     const char *text = PG_GETARG_CSTRING(0);
-    Input input = {DURATION_NAME, text, TEXT_HINT, (Node *)fcinfo->context};
     int128 nanoseconds;
     size_t fault;
     MuxanduStatus status = read_duration(text, &nanoseconds, &fault);
     if (status != MUXANDU_OK) {
+        const char *hint = has_months(text) ? MONTH_HINT : TEXT_HINT;
+        Input input = {"type " DURATION_NAME, text, hint, (Node *)fcinfo->context};
         refuse_text(&input, status, fault);
         PG_RETURN_NULL();
     }
@@ -136,7 +137,7 @@ FUNCTION(exact_duration_from_interval) {
     int128 seconds_of_days = (int128)span->day * SECS_PER_DAY;
     if (span->month != 0)
         ereport(ERROR, (errcode(ERRCODE_DATETIME_FIELD_OVERFLOW), errmsg("%s out of range", DURATION_NAME),
-                        errdetail("An interval of months or years has no fixed length."), errhint("Use add_months.")));
+                        errdetail("An interval of months or years has no fixed length."), errhint("%s", MONTH_HINT)));
     PG_RETURN_POINTER(from_nanoseconds(seconds_of_days * NANOSECONDS + (int128)span->time * 1000));
 }
 

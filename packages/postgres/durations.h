@@ -11,6 +11,10 @@ static inline int128 nanoseconds_of(const ExactDuration *duration) {
 /* Whether the seconds of a number of nanoseconds fit in 64 bits. */
 bool is_duration(int128 nanoseconds);
 
+/* The nanoseconds of a number of seconds. Where they are not whole, or no duration, it is an error
+ * of that type. */
+int128 nanoseconds_of_numeric(Datum seconds, const char *type);
+
 /* The duration of a number of nanoseconds. Where there is none, it is an error. */
 ExactDuration *from_nanoseconds(int128 nanoseconds);
 

@@ -3,6 +3,10 @@
 #include "units.h"
 #include "values.h"
 
+#include "utils/builtins.h"
+#include "utils/date.h"
+#include "utils/timestamp.h"
+
 /* A name of a part, and how a date-time has it. */
 typedef struct Part {
     const char *name;
@@ -50,6 +54,8 @@ static const char UNIT_HINT[] =
     "Name year, quarter, month, week, day, hour, minute, second, millisecond, microsecond or "
     "nanosecond.";
 
+static const char OFFSET_HINT[] = "Write an offset such as +02:00 or Z, or a number of seconds without quotes.";
+
 static const Part *part_named(const text *word) {
     const char *name = VARDATA_ANY(word);
     int size = (int)VARSIZE_ANY_EXHDR(word);
@@ -71,6 +77,27 @@ FUNCTION(offset_timestamp_part) {
 
 FUNCTION(offset_timestamp_at_offset) {
     PG_RETURN_POINTER(at_offset(instant_of(GET_TIMESTAMP(0)), PG_GETARG_INT32(1)));
+}
+
+int32 offset_in(const text *word) {
+    int32 seconds;
+    MuxanduStatus status = muxandu_offset_from_rfc3339(VARDATA_ANY(word), (size_t)VARSIZE_ANY_EXHDR(word), &seconds);
+    if (status != MUXANDU_OK) {
+        Input input = {"an offset", text_to_cstring(word), OFFSET_HINT, NULL};
+        refuse_text(&input, status, NO_FAULT);
+    }
+    return seconds;
+}
+
+FUNCTION(offset_timestamp_at_offset_text) {
+    PG_RETURN_POINTER(at_offset(instant_of(GET_TIMESTAMP(0)), offset_in(PG_GETARG_TEXT_PP(1))));
+}
+
+/* The day that the clocks of a value show. */
+FUNCTION(offset_timestamp_local_date) {
+    int32 day;
+    require(muxandu_date_time_day(shown_by(GET_TIMESTAMP(0)), &day), TIMESTAMP_NAME);
+    PG_RETURN_DATEADT(day - (POSTGRES_EPOCH_JDATE - UNIX_EPOCH_JDATE));
 }
 
 /* The Monday of the week, which may lie in another month or year. */

@@ -26,8 +26,10 @@ void refuse_text(const Input *input, MuxanduStatus status, size_t fault) {
     if (status == MUXANDU_REFUSED_SYNTAX)
         REPORT(input->context,
                (errcode(ERRCODE_INVALID_DATETIME_FORMAT),
-                errmsg("invalid input syntax for type %s: \"%s\"", input->type, input->text),
-                errdetail("%s: The text has another form from byte %zu on; the first byte is 0.", name, fault),
+                errmsg("invalid input syntax for %s: \"%s\"", input->name, input->text),
+                fault == NO_FAULT
+                    ? errdetail("%s: %s", name, muxandu_status_string(status))
+                    : errdetail("%s: The text has another form from byte %zu on; the first byte is 0.", name, fault),
                 errhint("%s", input->hint)));
     else
         REPORT(input->context, (errcode(ERRCODE_DATETIME_FIELD_OVERFLOW),

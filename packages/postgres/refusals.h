@@ -11,10 +11,10 @@
 #define TIMESTAMP_NAME "offset_timestamp"
 #define DURATION_NAME "exact_duration"
 
-/* A text that an input function reads, a hint with the form of such texts, and the place for an
+/* A text and the name of its form, a hint with the form of such texts, and the place for an
  * error that is not to end the statement, which PostgreSQL has from version 16 on. */
 typedef struct Input {
-    const char *type;
+    const char *name;
     const char *text;
     const char *hint;
     Node *context;
@@ -23,6 +23,9 @@ typedef struct Input {
 /* Ends the statement: a value of that type is out of range, with the name of the status and its
  * meaning. */
 void refuse(MuxanduStatus status, const char *type) pg_attribute_noreturn();
+
+/* The fault of a text of which no call says where it is. */
+#define NO_FAULT SIZE_MAX
 
 /* Ends the statement, or returns where the input has a place for errors. `fault` is the index of
  * the first byte that has not the form, and counts where the status is SYNTAX. */

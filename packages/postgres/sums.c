@@ -1,5 +1,5 @@
 /* Sums and differences of offset_timestamp, and what windows, ranges and series make of them. */
-#include "values.h"
+#include "durations.h"
 
 #include "funcapi.h"
 
@@ -9,6 +9,10 @@ FUNCTION(offset_timestamp_plus) {
     MuxanduTimestamp sum;
     require(muxandu_timestamp_add(instant_of(at), duration_of(GET_DURATION(1)), &sum), TIMESTAMP_NAME);
     PG_RETURN_POINTER(at_offset(sum, at->offset_seconds));
+}
+
+FUNCTION(exact_duration_plus_timestamp) {
+    return DirectFunctionCall2(offset_timestamp_plus, PG_GETARG_DATUM(1), PG_GETARG_DATUM(0));
 }
 
 FUNCTION(offset_timestamp_minus) {
@@ -37,6 +41,21 @@ FUNCTION(offset_timestamp_add_months) {
     PG_RETURN_POINTER(from_date_time(shown));
 }
 
+/* The beginning of the step in which an instant lies, where one step begins at the origin. */
+FUNCTION(offset_timestamp_bin) {
+    int128 step = nanoseconds_of(GET_DURATION(0)), past;
+    const OffsetTimestamp *at = GET_TIMESTAMP(1);
+    MuxanduDuration apart;
+    MuxanduTimestamp start;
+    if (step <= 0)
+        ereport(ERROR, (errcode(ERRCODE_DATETIME_VALUE_OUT_OF_RANGE), errmsg("stride must be greater than zero")));
+    require(muxandu_timestamp_difference(instant_of(at), instant_of(GET_TIMESTAMP(2)), &apart), DURATION_NAME);
+    past = nanoseconds_of(from_duration(apart)) % step;
+    if (past < 0) past += step;
+    require(muxandu_timestamp_subtract(instant_of(at), duration_of(from_nanoseconds(past)), &start), TIMESTAMP_NAME);
+    PG_RETURN_POINTER(at_offset(start, at->offset_seconds));
+}
+
 /* Whether a value lies within a duration of another: what RANGE BETWEEN asks. */
 FUNCTION(offset_timestamp_in_range) {
     MuxanduTimestamp base = instant_of(GET_TIMESTAMP(1)), end;
@@ -54,12 +73,19 @@ FUNCTION(offset_timestamp_in_range) {
     PG_RETURN_BOOL(is_upper ? order <= 0 : order >= 0);
 }
 
-/* The seconds from the second to the first, for the penalties of an index of ranges. */
-FUNCTION(offset_timestamp_subtype_diff) {
+/* The seconds between two instants, nearly: indexes ask which of their ranges are near. */
+static double seconds_between(const OffsetTimestamp *later, const OffsetTimestamp *earlier) {
     MuxanduDuration apart;
-    require(muxandu_timestamp_difference(instant_of(GET_TIMESTAMP(0)), instant_of(GET_TIMESTAMP(1)), &apart),
-            DURATION_NAME);
-    PG_RETURN_FLOAT8((double)apart.seconds + apart.nanoseconds / 1e9);
+    require(muxandu_timestamp_difference(instant_of(later), instant_of(earlier), &apart), DURATION_NAME);
+    return (double)apart.seconds + apart.nanoseconds / 1e9;
+}
+
+FUNCTION(offset_timestamp_subtype_diff) {
+    PG_RETURN_FLOAT8(seconds_between(GET_TIMESTAMP(0), GET_TIMESTAMP(1)));
+}
+
+FUNCTION(offset_timestamp_distance) {
+    PG_RETURN_FLOAT8(seconds_between(GET_TIMESTAMP(1), GET_TIMESTAMP(0)));
 }
 
 /* A series: its next value, its last, and the step. */

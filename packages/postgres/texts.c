@@ -1,4 +1,5 @@
 /* The texts of offset_timestamp, its binary form, and the digits of its columns. */
+#include "duration_texts.h"
 #include "values.h"
 
 #include "catalog/pg_type.h"
@@ -11,6 +12,7 @@
 enum { NO_DIGITS = -1, MOST_DIGITS = 9 };
 
 static const char TEXT_HINT[] = "Write RFC 3339 with an offset, such as 2024-02-29T12:00:00+01:00.";
+static const char DURATION_HINT[] = "Give a duration its type, such as '1 day'::exact_duration.";
 
 /* Keeps the digits of a column of that type modifier, and all where it has none. */
 static void keep_digits(OffsetTimestamp *at, int32 digits) {
@@ -20,15 +22,23 @@ static void keep_digits(OffsetTimestamp *at, int32 digits) {
     at->nanoseconds = instant.nanoseconds;
 }
 
+/* How to write what a text seems to be. */
+static const char *hint_of(const char *text) {
+    int128 nanoseconds;
+    size_t fault;
+    if (has_months(text)) return MONTH_HINT;
+    return read_duration(text, &nanoseconds, &fault) == MUXANDU_OK ? DURATION_HINT : TEXT_HINT;
+}
+
 FUNCTION(offset_timestamp_in) {
     const char *text = PG_GETARG_CSTRING(0);
-    Input input = {TIMESTAMP_NAME, text, TEXT_HINT, (Node *)fcinfo->context};
     size_t size = strlen(text);
     MuxanduDateTime shown;
     MuxanduTimestamp instant;
     OffsetTimestamp *at;
     MuxanduStatus status = muxandu_date_time_from_rfc3339(text, size, &shown);
     if (status != MUXANDU_OK) {
+        Input input = {"type " TIMESTAMP_NAME, text, hint_of(text), (Node *)fcinfo->context};
         refuse_text(&input, status, status == MUXANDU_REFUSED_SYNTAX ? muxandu_rfc3339_fault(text, size) : 0);
         PG_RETURN_NULL();
     }

@@ -66,6 +66,9 @@ static inline MuxanduDateTime shown_by(const OffsetTimestamp *at) {
 OffsetTimestamp *at_offset(MuxanduTimestamp instant, int32 offset_seconds);
 OffsetTimestamp *from_date_time(MuxanduDateTime shown);
 
+/* The seconds of an offset, such as +02:00. */
+int32 offset_in(const text *word);
+
 /* The value of an instant and an offset that have a text. */
 OffsetTimestamp *from_parts(MuxanduTimestamp instant, int32 offset_seconds);
 
