@@ -18,7 +18,19 @@ import unittest
 from array import array
 
 import muxandu
-from muxandu import Date, DateTimeParts, Duration, OffsetDateTime, PlainDateTime, Refused, Time, Timestamp, UtcDateTime, UtcOffset
+from muxandu import (
+    Date,
+    DateTimeParts,
+    Duration,
+    IsoWeekDate,
+    OffsetDateTime,
+    PlainDateTime,
+    Refused,
+    Time,
+    Timestamp,
+    UtcDateTime,
+    UtcOffset,
+)
 from muxandu import _extension as engine
 from muxandu._refusals import REFUSALS
 
@@ -367,7 +379,7 @@ class Kept(unittest.TestCase):
     def test_the_extension_holds_what_it_is_given(self):
         from muxandu._words import as_bytes
 
-        words = (REFUSALS, as_bytes)
+        words = (REFUSALS, as_bytes, IsoWeekDate)
         before = [sys.getrefcount(word) for word in words]
         engine.bind(*words)
         self.assertEqual([sys.getrefcount(word) for word in words], before)
