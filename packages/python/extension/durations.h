@@ -1,6 +1,6 @@
 /* Durations, days and offsets as objects. */
 
-/* The nanoseconds of the units that a constructor takes by name, besides seconds and nanoseconds. */
+/* The nanoseconds of the units that a constructor takes by name. */
 static const struct {
     const char *name;
     int64_t nanoseconds;

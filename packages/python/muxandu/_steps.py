@@ -69,7 +69,7 @@ TRUTHS: dict[str, Callable[[Date], bool]] = {
 
 
 def of_dates(array: Any, read: Callable[[Date], Any], kind: Any, gap: Any) -> Any:
-    """What a call reads of the local date of each row, by one call for each date that there is."""
+    """The results of a call for the local date of each row. It is made once for each date."""
     shown = array.parts()
     keys = (shown["year"].astype("int64") << 16) | (shown["month"].astype("int64") << 8) | shown["day"]
     dates, places = numpy.unique(keys, return_inverse=True)
@@ -152,7 +152,7 @@ def nearest(array: Any, step: Any) -> Any:
 
 
 def rows_from(start: OffsetDateTime, end: Optional[OffsetDateTime], count: Optional[int], step: Any) -> Any:
-    """The rows of moments at each step from a first one on, at its offset: so many, or those up to
+    """The rows of moments at each step from a first one on, at its offset: a count of them, or up to
     a last one. Months are counted from the first one."""
     span = _span_of(step)
     if span and span.months:
@@ -168,7 +168,7 @@ def rows_from(start: OffsetDateTime, end: Optional[OffsetDateTime], count: Optio
 
 
 def _rows_by_months(start: OffsetDateTime, end: Optional[OffsetDateTime], count: Optional[int], months: int) -> Any:
-    """The rows at each of some months, so many or those up to a last one."""
+    """The rows at each of some months: a count of them, or up to a last one."""
     rows: list[Any] = []
     one = numpy.array([row_of(start)], ROW)
     while count is None or len(rows) < count:

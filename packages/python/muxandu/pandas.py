@@ -1025,8 +1025,8 @@ class MomentAccessor:
 
 
 def date_range(start: Any, end: Any = None, periods: Any = None, freq: Any = "day") -> MomentArray:
-    """The moments at each step from a first one on, at its offset: so many periods, or those up to
-    an end. A step is a unit, a length such as "15min" of any size, a "week", a "month", a "quarter"
+    """The moments at each step from a first one on, at its offset: a number of periods, or up to an
+    end. A step is a unit, a length such as "15min" of any size, a "week", a "month", a "quarter"
     or a "year"."""
     if (end is None) == (periods is None):
         raise TypeError("date_range() needs an end or a number of periods, and takes one of them")
