@@ -262,9 +262,13 @@ class Parameters(unittest.TestCase):
 class Extension(unittest.TestCase):
     def test_texts_of_days_and_times(self):
         """A day and a time of day are written in C, as clocks are."""
-        for value, pattern in ((Date(2024, 2, 29), "%d.%m.%Y"), (Time(12, 30), "%H:%M")):
+        for value, pattern, text in (
+            (Date(2024, 2, 29), "%d.%m.%Y", "29.02.2024"),
+            (Date(-5, 12, 31), "%j", "365"),
+            (Time(12, 30), "%H:%M", "12:30"),
+        ):
             items = _formats.of_strftime(pattern)
-            self.assertEqual(engine.text_of_clock(value._kind, items.items, items.size, value), value.strftime(pattern))
+            self.assertEqual(engine.text_of_clock(value._kind, items.items, items.size, value), text)
         items = _formats.of_strftime("%H")
         self.assertIsNone(engine.text_of_clock(Date._kind, items.items, items.size, Date(2024, 2, 29)))
         self.assertIsNone(engine.text_of_clock(Date._kind, items.items, items.size, 5))

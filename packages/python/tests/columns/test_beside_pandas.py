@@ -6,6 +6,7 @@ of its own columns alone: each with the error of a column of moments, and with t
 """
 
 import datetime
+import functools
 import importlib.util
 import operator
 import sqlite3
@@ -37,8 +38,13 @@ def seconds_far(chance, size):
     return chance.integers(-8_520_336_000, 8_520_336_000, size), chance.integers(0, 10**9, size)
 
 
+@functools.lru_cache(maxsize=None)
 def columns(ways=(seconds_near, seconds_far)):
     """Random columns of moments, each with its instants as datetime64 in UTC, with and without gaps."""
+    return tuple(made_columns(ways))
+
+
+def made_columns(ways):
     for seed, size in enumerate((1, 2, 9, 60)):
         for seconds in ways:
             for share in (0, 0.2):
@@ -136,6 +142,7 @@ ALIKE = {
     "clip": lambda at: at.clip(lower=NOON),
     "as instants": lambda at: at.astype(UTC),
     "as instants of a zone": lambda at: at.astype("datetime64[ns, Europe/Paris]").dt.hour,
+    "as instants without a zone": lambda at: at.astype("datetime64[ns]"),
     "as an array of instants": lambda at: at.to_numpy("datetime64[ns]"),
     "as a category": lambda at: at.astype("category").cat.codes,
     "pivot_table": lambda at: frame(at).dropna().pivot_table(index="at", columns="g", values="n"),
