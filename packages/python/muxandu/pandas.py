@@ -36,7 +36,6 @@ from . import _extension as _engine
 from . import _formats, _steps
 from . import (
     MISSING,
-    Date,
     DateTimeParts,
     Duration,
     OffsetDateTime,

@@ -16,7 +16,6 @@ import warnings
 import numpy
 import pandas
 
-import muxandu.pandas
 from muxandu import Date, Duration, OffsetDateTime, RefusedNoText, Unit
 from muxandu.pandas import ROW, MomentArray, date_range, merge_asof
 
