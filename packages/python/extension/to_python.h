@@ -57,15 +57,20 @@ static PyObject *clock_of_nanoseconds(PyObject *class, PyObject *const *words, P
 
 /* The datetime.timezone of an offset. The last one is kept. */
 static PyObject *timezone_of(Module *module, int32_t offset) {
-    PyObject *length, *made;
-    if (!offset) return module->utc;
-    if (module->zone && module->zone_seconds == offset) return module->zone;
+    PyObject *length, *made = offset ? module->zone : module->utc;
+    if (!offset || (made && module->zone_seconds == offset)) {
+        Py_INCREF(made);
+        return made;
+    }
     length = PyObject_CallFunction(module->timedelta, "ii", 0, (int)offset);
     made = length ? PyObject_CallFunctionObjArgs(module->timezone, length, NULL) : NULL;
     Py_XDECREF(length);
-    if (!made) return NULL;
-    Py_XDECREF(module->zone);
-    module->zone = made, module->zone_seconds = offset;
+    if (made) {
+        PyObject *last = module->zone;
+        Py_INCREF(made);
+        module->zone = made, module->zone_seconds = offset;
+        Py_XDECREF(last);
+    }
     return made;
 }
 
@@ -99,8 +104,11 @@ static PyObject *datetime_of(Module *module, const MuxanduDateTime *at, PyObject
 static PyObject *clock_to_datetime(PyObject *self, PyObject *unused) {
     Module *module = CLOCK_OWNER(self);
     const MuxanduDateTime *at = &VALUE(Clock, self);
+    /* It is held here: another thread may ask for the zone of another offset meanwhile. */
+    PyObject *zone = timezone_of(module, at->offset_seconds), *made = datetime_of(module, at, zone);
     (void)unused;
-    return datetime_of(module, at, timezone_of(module, at->offset_seconds));
+    Py_XDECREF(zone);
+    return made;
 }
 
 static PyObject *plain_to_datetime(PyObject *self, PyObject *unused) {
