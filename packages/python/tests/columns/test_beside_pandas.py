@@ -378,6 +378,16 @@ class Steps(unittest.TestCase):
         with self.assertRaisesRegex(ValueError, "have no nearest one: use floor or ceil to a month"):
             at.moment.round("month")
 
+    def test_the_middle_of_two_steps(self):
+        """Of which a day has an odd number, so that the even one changes from day to day."""
+        for step, hours in (("1D", (12,)), ("8h", (4, 12, 20))):
+            walls = [pandas.Timestamp(1969, 12, day, hour) for day in range(28, 32) for hour in hours]
+            for offset in (0, 19_800):
+                moments = [OffsetDateTime(wall.year, wall.month, wall.day, wall.hour, offset_seconds=offset) for wall in walls]
+                found = pandas.Series(moments, dtype="moment").moment.round(step)
+                wanted = [wall.round(step) - pandas.Timedelta(offset, "s") for wall in walls]
+                self.assertEqual(plain(found.tolist()), plain(wanted))
+
     def test_far_years(self):
         """Steps of each year of the library, at the clocks of each row."""
         at = pandas.Series(
