@@ -104,7 +104,7 @@ static PyObject *datetime_of(Module *module, const MuxanduDateTime *at, PyObject
 static PyObject *clock_to_datetime(PyObject *self, PyObject *unused) {
     Module *module = CLOCK_OWNER(self);
     const MuxanduDateTime *at = &VALUE(Clock, self);
-    /* It is held here: another thread may ask for the zone of another offset meanwhile. */
+    /* This call keeps it: another thread may ask for the zone of another offset meanwhile. */
     PyObject *zone = timezone_of(module, at->offset_seconds), *made = datetime_of(module, at, zone);
     (void)unused;
     Py_XDECREF(zone);
