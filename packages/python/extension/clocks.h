@@ -8,6 +8,8 @@ static PyObject *Timestamp_new(PyTypeObject *type, PyObject *given, PyObject *na
     PyObject *words[ALL_WORDS];
     MuxanduTimestamp value = {0, 0};
     uint32_t status;
+    if (PyTuple_Size(given) == 1 && PyUnicode_Check(PyTuple_GetItem(given, 0)))
+        return lacks("Timestamp", WORDS[NANOSECONDS], given), NULL;
     if (!take_words(module, "Timestamp", given, named, SECONDS, 1, NANOSECONDS + 1, words) ||
         !TAKE_WORD(words, SECONDS, take_int64_t, &value.seconds) ||
         !TAKE_WORD(words, NANOSECONDS, take_uint32_t, &value.nanoseconds))

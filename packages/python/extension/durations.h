@@ -1,6 +1,61 @@
 /* Durations, days and offsets as objects. */
 
+/* The nanoseconds of the units that a constructor takes by name. */
+static const struct {
+    const char *name;
+    int64_t nanoseconds;
+} UNITS[] = {{"weeks", 604800000000000}, {"days", 86400000000000},  {"hours", 3600000000000},
+             {"minutes", 60000000000},   {"milliseconds", 1000000}, {"microseconds", 1000}};
+
+/* Takes the units out of the words of a constructor, and adds up their nanoseconds. */
+static int take_units(Module *module, PyObject *named, __int128 *whole) {
+    size_t place;
+    for (place = 0; place < sizeof UNITS / sizeof *UNITS; place++) {
+        PyObject *word = PyDict_GetItemString(named, UNITS[place].name);
+        int64_t number;
+        int beyond;
+        if (!word) continue;
+        if (!PyIndex_Check(word)) {
+            PyErr_Format(PyExc_TypeError, "the argument '%s' must be an integer, not %R", UNITS[place].name,
+                         Py_TYPE(word));
+            return 0;
+        }
+        number = PyLong_AsLongLongAndOverflow(word, &beyond);
+        if (number == -1 && !beyond && PyErr_Occurred()) return 0;
+        if (beyond) {
+            refuse(module, MUXANDU_REFUSED_DURATION);
+            return 0;
+        }
+        *whole += (__int128)number * UNITS[place].nanoseconds;
+        if (PyDict_DelItemString(named, UNITS[place].name) < 0) return 0;
+    }
+    return 1;
+}
+
+static PyObject *Duration_of_whole(Module *module, PyTypeObject *type, __int128 whole) {
+    MuxanduDuration value;
+    return put_nanoseconds(module, whole, &value) ? make_Duration(module, type, value) : NULL;
+}
+
+static PyObject *Duration_of_numbers(PyTypeObject *type, PyObject *given, PyObject *named);
+
+/* The duration of seconds and nanoseconds, and of other units by name. */
 static PyObject *Duration_new(PyTypeObject *type, PyObject *given, PyObject *named) {
+    Module *module = owner(type, kind_Duration, kind_Duration);
+    PyObject *left = named && PyDict_Size(named) ? PyDict_Copy(named) : NULL, *made = NULL;
+    __int128 whole = 0;
+    if (!left) return PyErr_Occurred() ? NULL : Duration_of_numbers(type, given, NULL);
+    if (take_units(module, left, &whole)) made = Duration_of_numbers(type, given, left);
+    Py_DECREF(left);
+    if (made && whole) {
+        MuxanduDuration first = VALUE(Duration, made);
+        Py_DECREF(made);
+        made = Duration_of_whole(module, type, nanoseconds_of(first) + whole);
+    }
+    return made;
+}
+
+static PyObject *Duration_of_numbers(PyTypeObject *type, PyObject *given, PyObject *named) {
     Module *module = owner(type, kind_Duration, kind_Duration);
     PyObject *words[ALL_WORDS], *zero = NULL, *made = NULL;
     MuxanduDuration value = {0, 0};
@@ -15,11 +70,6 @@ static PyObject *Duration_new(PyTypeObject *type, PyObject *given, PyObject *nam
     }
     Py_XDECREF(zero);
     return made;
-}
-
-static PyObject *Duration_of_whole(Module *module, PyTypeObject *type, __int128 whole) {
-    MuxanduDuration value;
-    return put_nanoseconds(module, whole, &value) ? make_Duration(module, type, value) : NULL;
 }
 
 /* Two durations together, or one less another, where 64 bits hold the seconds on the way: it

@@ -12,6 +12,8 @@
 
 #include "durations.h"
 
+#include "to_python.h"
+
 /* Functions. */
 
 /* Where the items of a buffer begin. */
@@ -25,10 +27,11 @@ static PyObject *address(PyObject *self, PyObject *buffer) {
     return found;
 }
 
-/* Takes the classes of refusals, and the function that gives the bytes of a text. */
+/* Takes the classes of refusals, the function that gives the bytes of a text, and the class of ISO
+ * weeks. */
 static PyObject *bind(PyObject *self, PyObject *const *words, Py_ssize_t count) {
     Module *module = OWNER_OF_FUNCTION(self);
-    PyObject **places[] = {&module->refusals, &module->as_bytes};
+    PyObject **places[] = {&module->refusals, &module->as_bytes, &module->week_date};
     size_t place;
     if (!are("bind", count, sizeof places / sizeof *places)) return NULL;
     for (place = 0; place < sizeof places / sizeof *places; place++) {
@@ -172,21 +175,29 @@ static PyObject *moments_from_items(PyObject *self, PyObject *const *words, Py_s
     return PyLong_FromSsize_t(done);
 }
 
-/* The text of a clock by the items of a description: of a kind, the items and their number, and the
- * clock. None for a value of another type, and for what has no text. */
+/* The text of a clock or a day by the items of a description: of a kind, the items and their
+ * number, and the value. None for one of another type, and for what has no text. */
 static PyObject *text_of_clock(PyObject *self, PyObject *const *words, Py_ssize_t count) {
     PyTypeObject **types = OWNER_OF_FUNCTION(self)->types, *type;
     Items items = {0};
     char text[64];
     MuxanduSpan span = {0, 0};
     MuxanduBatch batch;
+    MuxanduDateTime at = {1970, 1, 1, 0, 0, 0, 0, 0};
     uint32_t kind;
     if (!are("text_of_clock", count, 4) || !take_uint32_t(words[0], &kind)) return NULL;
     type = Py_TYPE(words[3]);
-    if (type != types[kind_OffsetDateTime] && type != types[kind_UtcDateTime] && type != types[kind_PlainDateTime])
+    if (type == types[kind_Date]) {
+        at.year = VALUE(Date, words[3]).year, at.month = VALUE(Date, words[3]).month;
+        at.day = VALUE(Date, words[3]).day;
+    } else if (type == types[kind_OffsetDateTime] || type == types[kind_UtcDateTime] ||
+               type == types[kind_PlainDateTime] || type == types[kind_Time]) {
+        at = VALUE(Clock, words[3]);
+    } else {
         Py_RETURN_NONE;
+    }
     if (!take_items(words + 1, &items, 0)) return NULL;
-    batch = muxandu_format_all(kind, items.at, items.count, &VALUE(Clock, words[3]), 1, text, sizeof text, &span, 1);
+    batch = muxandu_format_all(kind, items.at, items.count, &at, 1, text, sizeof text, &span, 1);
     drop_items(&items);
     if (batch.status) Py_RETURN_NONE;
     return PyUnicode_DecodeASCII(text, (Py_ssize_t)span.length, NULL);
@@ -211,6 +222,15 @@ static PyMethodDef functions[] = {CALLS_OF_FUNCTIONS{"pack_texts", pack_texts, M
 #define METHOD(name, made, kind, words, help)                                                                          \
     { name, FUNCTION(made), kind, name "(" words ")\n--\n\n" help }
 
+/* The classes and the numbers of values, as pickles take them. */
+#define REDUCE(kind)                                                                                                   \
+    METHOD("__reduce__", kind##_reduced, NO_WORDS, "$self, /", "The class, and the arguments that make the value.")
+#define TO_DATETIME(made, which)                                                                                       \
+    METHOD("to_datetime", made, NO_WORDS, "$self, /",                                                                  \
+           "The datetime.datetime " which " that shows the same, to the microsecond, which is rounded down.")
+#define OF_NANOSECONDS                                                                                                 \
+    METHOD("_of_nanoseconds", clock_of_nanoseconds, METH_FASTCALL | METH_CLASS,                                        \
+           "$type, nanoseconds, offset_seconds, /", "The date-time of a count of nanoseconds from 1970 on.")
 #define REPLACE(made, words)                                                                                           \
     METHOD("replace", made, BY_NAME, "$self, /, *, " words, "The same with other parts, by name: replace(day=1).")
 #define DATE_WORDS "year=..., month=..., day=..."
@@ -223,6 +243,8 @@ static PyMethodDef Timestamp_methods[] = {
     CALLS_OF_Timestamp METHOD("to_utc", timestamp_to_utc, NO_WORDS, "$self, /", "The date-time in UTC."),
     METHOD("from_datetime", timestamp_from_datetime, OF_CLASS, "$type, at, /",
            "The instant of a datetime.datetime that has an offset."),
+    METHOD("_to_utc_datetime", timestamp_to_utc_datetime, NO_WORDS, "$self, /", "The datetime.datetime in UTC."),
+    REDUCE(Timestamp),
     {0}};
 
 static PyMethodDef OffsetDateTime_methods[] = {
@@ -232,6 +254,9 @@ static PyMethodDef OffsetDateTime_methods[] = {
     METHOD("to_utc", shown_to_utc, NO_WORDS, "$self, /", "The date-time in UTC of the same instant."),
     METHOD("from_datetime", shown_from_datetime, OF_CLASS, "$type, at, /",
            "The date-time of a datetime.datetime, which must have an offset of whole seconds."),
+    TO_DATETIME(clock_to_datetime, "at the offset"),
+    OF_NANOSECONDS,
+    REDUCE(OffsetDateTime),
     REPLACE(shown_replaced, WALL_WORDS ", offset_seconds=..."),
     {0}};
 
@@ -244,6 +269,9 @@ static PyMethodDef UtcDateTime_methods[] = {
     METHOD("from_rfc3339", utc_from_rfc3339, OF_CLASS, "$type, text, /", "The date-time in UTC of a text of RFC 3339."),
     METHOD("from_datetime", utc_from_datetime, OF_CLASS, "$type, at, /",
            "The date-time in UTC of a datetime.datetime with an offset."),
+    TO_DATETIME(clock_to_datetime, "in UTC"),
+    OF_NANOSECONDS,
+    REDUCE(UtcDateTime),
     REPLACE(wall_replaced, WALL_WORDS),
     {0}};
 
@@ -254,6 +282,8 @@ static PyMethodDef PlainDateTime_methods[] = {
            "The same, as clocks at an offset show it."),
     METHOD("from_datetime", plain_from_datetime, OF_CLASS, "$type, at, /",
            "The wall clock of a datetime.datetime without an offset."),
+    TO_DATETIME(plain_to_datetime, "without an offset"),
+    REDUCE(PlainDateTime),
     REPLACE(wall_replaced, WALL_WORDS),
     {0}};
 
@@ -263,16 +293,20 @@ static PyMethodDef Date_methods[] = {
     METHOD("day_number", date_number, NO_WORDS, "$self, /", "The days from 1970-01-01."),
     METHOD("weekday", date_weekday, NO_WORDS, "$self, /", "The day of the week, 0 for Monday."),
     METHOD("from_rfc3339", date_read, OF_CLASS, "$type, text, /", "The day of a text of RFC 3339, as 1985-04-12."),
+    METHOD("to_iso_week_date", date_to_iso_week_date, NO_WORDS, "$self, /",
+           "The ISO year, the ISO week and the day of the week, 0 for Monday."),
+    REDUCE(Date),
     REPLACE(Date_replaced, DATE_WORDS),
     {0}};
 
 static PyMethodDef UtcOffset_methods[] = {METHOD("whole_seconds", offset_whole_seconds, NO_WORDS, "$self, /",
                                                  "The seconds by which clocks are ahead of UTC."),
+                                          REDUCE(UtcOffset),
                                           {0}};
 
-static PyMethodDef Time_methods[] = {{0}};
-static PyMethodDef Duration_methods[] = {{0}};
-static PyMemberDef UtcOffset_members[] = {{0}};
+static PyMethodDef Time_methods[] = {REDUCE(Time), {0}};
+static PyMethodDef Duration_methods[] = {REDUCE(Duration), {0}};
+static PyMemberDef UtcOffset_members[] = {{"_seconds", T_INT, offsetof(UtcOffsetObject, value), READONLY, NULL}, {0}};
 
 /* The slots of each type: the words of its constructor, as Python reads them from the head of a
  * text of help. */
@@ -303,7 +337,10 @@ static PyType_Slot Timestamp_slots[] = {SLOTS(Timestamp, "seconds, nanoseconds=0
                                         SUMS(Timestamp),
                                         {Py_tp_str, Timestamp_text},
                                         {0, NULL}};
-static PyType_Slot Duration_slots[] = {SLOTS(Duration, "seconds=0, nanoseconds=0", Duration_hash),
+static PyType_Slot Duration_slots[] = {SLOTS(Duration,
+                                             "seconds=0, nanoseconds=0, *, weeks=0, days=0, hours=0, minutes=0, "
+                                             "milliseconds=0, microseconds=0",
+                                             Duration_hash),
                                        SUMS(Duration),
                                        {Py_nb_negative, Duration_negative},
                                        {Py_nb_absolute, Duration_absolute},

@@ -46,8 +46,13 @@ typedef struct Module {
     /* The classes of refusals by their statuses, and the function that gives the bytes of a text
      * of another type. */
     PyObject *refusals, *as_bytes;
+    /* The class of ISO weeks, a tuple of three. */
+    PyObject *week_date;
     PyObject *timedelta, *datetime, *timezone, *utc;
     PyObject *second_nanoseconds, *half_of_whole;
+    /* The last datetime.timezone that was made, and its offset. */
+    PyObject *zone;
+    int32_t zone_seconds;
     /* int.__index__, which gives a whole number as Python's own. */
     PyObject *index_of_int;
     /* Whether this Python has the parts of these types where Timedelta and Datetime have them. */
@@ -58,7 +63,8 @@ typedef struct Module {
 #define HELD(module)                                                                                                   \
     {                                                                                                                  \
         &(module)->refusals, &(module)->as_bytes, &(module)->timedelta, &(module)->datetime, &(module)->timezone,      \
-            &(module)->utc, &(module)->half_of_whole, &(module)->index_of_int, &(module)->second_nanoseconds           \
+            &(module)->utc, &(module)->half_of_whole, &(module)->index_of_int, &(module)->second_nanoseconds,          \
+            &(module)->week_date, &(module)->zone                                                                      \
     }
 
 /* The first import of the process, and those after it. */

@@ -2,12 +2,12 @@
 
 from __future__ import annotations
 
-import datetime
+import time
 from typing import Any, Callable, ClassVar, TypeVar, Union
 
 from . import _extension as engine
 from . import _formats, _own_texts
-from ._values import _PARTS, Date, Time, Timestamp, _complete, _datetime, _Formatted, _parts
+from ._values import _PARTS, Date, Time, Timestamp, _complete, _Formatted, _parts
 
 _Plain = TypeVar("_Plain", bound="PlainDateTime")
 _Utc = TypeVar("_Utc", bound="UtcDateTime")
@@ -36,11 +36,6 @@ class PlainDateTime(_Formatted, engine.PlainDateTime):
         """The date and the time of day together."""
         return cls(date.year, date.month, date.day, time.hour, time.minute, time.second, time.nanosecond)
 
-    def to_datetime(self) -> datetime.datetime:
-        """The datetime.datetime with no offset that shows the same, to the microsecond, which is
-        rounded down."""
-        return _datetime(self, None)
-
 
 @_complete
 class UtcDateTime(_Formatted, engine.UtcDateTime):
@@ -59,7 +54,7 @@ class UtcDateTime(_Formatted, engine.UtcDateTime):
     @classmethod
     def now(cls: type[_Utc]) -> _Utc:
         """The date-time in UTC now, by the clock of the system."""
-        return cls(*_parts(Timestamp.now().to_utc(), *_PARTS))
+        return cls._of_nanoseconds(time.time_ns(), 0)
 
     @classmethod
     def from_text(cls: type[_Utc], text: str) -> _Utc:
@@ -70,11 +65,6 @@ class UtcDateTime(_Formatted, engine.UtcDateTime):
     def new(cls: type[_Utc], date: Date, time: Time) -> _Utc:
         """The date and the time of day together."""
         return cls(date.year, date.month, date.day, time.hour, time.minute, time.second, time.nanosecond)
-
-    def to_datetime(self) -> datetime.datetime:
-        """The datetime.datetime in UTC that shows the same, to the microsecond, which is rounded
-        down."""
-        return _datetime(self, datetime.timezone.utc)
 
     @classmethod
     def _read(cls: type[_Utc], read: Callable[..., Any], text: Union[str, bytes], pattern: str) -> _Utc:

@@ -3,6 +3,7 @@
 from __future__ import annotations
 
 import functools
+import locale
 import re
 from typing import Any, Callable, NamedTuple, Optional
 
@@ -264,6 +265,37 @@ def test_format(pattern: str) -> None:
     for found in _DIRECTIVE.finditer(pattern):
         if found[1] == "s":
             _directive(pattern, found.start() + 1)
+
+
+# Directives that `datetime` writes as descriptions do: in every locale, and in that of C.
+_OF_NUMBERS, _OF_NAMES = frozenset("dfHIjmMSuUVwWyYzG%"), frozenset("aAbBhp")
+_OF_C = ("C", "POSIX", "C.UTF-8", "C.utf8")
+
+
+@functools.lru_cache(maxsize=512)
+def _as_datetime(pattern: str) -> Optional[tuple[Items, bool, bool]]:
+    """The items that write what `datetime` writes, and whether they have names, and an offset. None
+    of a pattern with other directives."""
+    found = {one[0]: one[1] for one in _DIRECTIVE.finditer(pattern)}
+    if not {f"%{name}" for name in _OF_NUMBERS | _OF_NAMES} >= found.keys() or pattern.count("%") % 2 and pattern[-1:] == "%":
+        return None
+    return items_of(description_of_strftime(pattern)), bool(_OF_NAMES & set(found.values())), "%z" in found
+
+
+def text_as_datetime(kind: int, value: Any, pattern: str) -> Optional[str]:
+    """The text that the `strftime` of `datetime` writes, or None where that is to write it: for
+    years outside 1001 to 9998, names of another locale, and what a value lacks."""
+    described = _as_datetime(pattern) if type(pattern) is str else None
+    if described is None or not 1_000 < getattr(value, "year", 2_000) < 9_999:
+        return None
+    items, has_names, has_offset = described
+    offset = getattr(value, "offset_seconds", 0)
+    if offset and (not -86_400 < offset < 86_400 or has_offset and offset % 60):
+        return None
+    if has_names and locale.setlocale(locale.LC_TIME) not in _OF_C:
+        return None
+    text: Optional[str] = engine.text_of_clock(kind, items.items, items.size, value)
+    return text
 
 
 @functools.lru_cache(maxsize=512)

@@ -38,6 +38,7 @@ def _complete(kind: type[_Kind]) -> type[_Kind]:
         if name not in ("__dict__", "__module__", "__slots__", "__weakref__"):
             setattr(made, name, value)
     made.__module__ = "muxandu"
+    setattr(made, "__match_args__", ("_seconds",) if made._names == ("offset_seconds",) else made._names)
     whole: type[_Kind] = made
     return whole
 
@@ -52,9 +53,6 @@ class _Value:
     __slots__ = ()
 
     _names: ClassVar[tuple[str, ...]]
-
-    def __reduce__(self) -> tuple[Any, ...]:
-        return type(self), _parts(self, *self._names)
 
     def __repr__(self) -> str:
         return f"{type(self).__name__}{self.__reduce__()[1]}"
@@ -113,9 +111,20 @@ class _Formatted(_Described):
         and of strftime."""
         return cls._read(_formats.strptime_value, text, pattern)
 
+    def __conform__(self, protocol: object) -> Any:
+        """The text of RFC 3339 for a parameter of sqlite3, or None where another asks or a value
+        has none."""
+        if getattr(protocol, "__name__", "") != "PrepareProtocol":
+            return None
+        write = getattr(self, "to_rfc3339_nanos", None) or getattr(self, "to_rfc3339", None)
+        return write and write()
+
     def __format__(self, form: str) -> str:
         if "%" not in form:
             return format(str(self), form)
+        text = _formats.text_as_datetime(self._kind, self._as_shown(), form)
+        if text is not None:
+            return text
         _formats.test_format(form)
         return str(getattr(self, self._of_python)().strftime(form))
 
@@ -261,9 +270,6 @@ class UtcOffset(_Described, engine.UtcOffset):
     def _as_shown(self) -> OffsetDateTime:
         return OffsetDateTime(1970, 1, 1, offset_seconds=self)
 
-    def __reduce__(self) -> tuple[Any, ...]:
-        return type(self), (self.whole_seconds(),)
-
     def __str__(self) -> str:
         return str(self._as_shown()).rpartition(" ")[2]
 
@@ -336,7 +342,8 @@ class Timestamp(_Formatted, engine.Timestamp):
     def to_datetime(self, zone: datetime.tzinfo = datetime.timezone.utc) -> datetime.datetime:
         """The datetime.datetime of the instant in a zone, to the microsecond, which is rounded
         down."""
-        return self.to_offset(0).to_datetime().astimezone(zone)
+        at = self._to_utc_datetime()
+        return at if zone is datetime.timezone.utc else at.astimezone(zone)
 
     def _as_shown(self) -> OffsetDateTime:
         return self.to_offset(0)
@@ -364,12 +371,14 @@ class OffsetDateTime(_Formatted, engine.OffsetDateTime):
     _kind: ClassVar[int] = _formats.OFFSET_DATE_TIME
     _names = (*_PARTS, "offset_seconds")
 
+    MIN: ClassVar[OffsetDateTime]
+    MAX: ClassVar[OffsetDateTime]
     UNIX_EPOCH: ClassVar[OffsetDateTime]
 
     @classmethod
     def now(cls: type[_Shown], offset_seconds: SupportsIndex = 0) -> _Shown:
         """The date-time at an offset now, by the clock of the system."""
-        return cls(*_parts(Timestamp.now().to_offset(offset_seconds), *_PARTS, "offset_seconds"))
+        return cls._of_nanoseconds(time.time_ns(), offset_seconds)
 
     @classmethod
     def from_text(cls: type[_Shown], text: str) -> _Shown:
@@ -390,21 +399,12 @@ class OffsetDateTime(_Formatted, engine.OffsetDateTime):
         is_structure = hasattr(item, "offset_seconds")
         return cls(*(getattr(item, name) if is_structure else item[name] for name in (*_PARTS, "offset_seconds")))
 
-    def to_datetime(self) -> datetime.datetime:
-        """The datetime.datetime that shows the same, to the microsecond, which is rounded down."""
-        return _datetime(self, self.offset().to_timezone())
-
     def is_same(self, other: OffsetDateTime) -> bool:
         """Whether both have the same parts and the same offset. `==` compares the instants
         alone."""
         if not isinstance(other, OffsetDateTime):
             raise TypeError(f"the other value must be an OffsetDateTime, not {type(other).__name__}")
         return bool(self.__reduce__()[1] == other.__reduce__()[1])
-
-
-def _datetime(shown: Any, zone: Union[datetime.tzinfo, None]) -> datetime.datetime:
-    clock = (shown.hour, shown.minute, shown.second, shown.nanosecond // 1_000)
-    return datetime.datetime(shown.year, shown.month, shown.day, *clock, tzinfo=zone)
 
 
 class OrdinalDate(NamedTuple):
@@ -463,7 +463,7 @@ class Date(_Formatted, engine.Date):
     @classmethod
     def today(cls: type[_Date]) -> _Date:
         """The day in UTC, by the clock of the system."""
-        return cls.from_day_number(Timestamp.now().to_offset(0).day_number())
+        return cls.from_day_number(OffsetDateTime._of_nanoseconds(time.time_ns(), 0).day_number())
 
     def to_date(self) -> datetime.date:
         """The datetime.date of the day, of the years 1 to 9999."""
@@ -502,10 +502,6 @@ class Date(_Formatted, engine.Date):
     def to_ordinal_date(self) -> OrdinalDate:
         """The year and the day of the year."""
         return OrdinalDate(*engine.ordinal_date_from_day(self.day_number()))
-
-    def to_iso_week_date(self) -> IsoWeekDate:
-        """The ISO year, the ISO week and the day of the week, 0 for Monday."""
-        return IsoWeekDate(*engine.week_date_from_day(self.day_number()))
 
     def __str__(self) -> str:
         return str(OffsetDateTime(self.year, self.month, self.day)).partition(" ")[0]
@@ -557,6 +553,7 @@ def _minimum_and_maximum() -> None:
     Timestamp.UNIX_EPOCH = Timestamp(0)
     Timestamp.MAX = Timestamp.UNIX_EPOCH.saturating_add(Duration.MAX)
     Timestamp.MIN = Timestamp.UNIX_EPOCH.saturating_sub(Duration.MAX)
+    OffsetDateTime.MIN, OffsetDateTime.MAX = Timestamp.MIN.to_offset(0), Timestamp.MAX.to_offset(0)
     OffsetDateTime.UNIX_EPOCH = OffsetDateTime(1970, 1, 1)
     Date.MIN, Date.MAX = Timestamp.MIN.to_offset(0).date(), Timestamp.MAX.to_offset(0).date()
     Time.MIDNIGHT, Time.MAX = Time(0), Timestamp.MAX.to_offset(0).time()
@@ -568,5 +565,5 @@ def days_in_month(year: int, month: int) -> int:
     return engine.days_in_month(year, month)
 
 
-engine.bind(REFUSALS, as_bytes)
+engine.bind(REFUSALS, as_bytes, IsoWeekDate)
 _minimum_and_maximum()

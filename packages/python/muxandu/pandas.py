@@ -18,18 +18,24 @@ import contextlib
 import datetime
 import functools
 import numbers
-from typing import Any, Callable, Union
+from typing import Any, Callable
 
 import numpy
 import pandas
-from pandas.api.extensions import ExtensionArray, ExtensionDtype, register_extension_dtype, register_series_accessor
+from pandas.api.extensions import (
+    ExtensionArray,
+    ExtensionDtype,
+    register_extension_dtype,
+    register_index_accessor,
+    register_series_accessor,
+)
 from pandas.api.indexers import check_array_indexer
 from pandas.api.types import is_list_like
 
 from . import _extension as _engine
+from . import _formats, _steps
 from . import (
     MISSING,
-    Date,
     DateTimeParts,
     Duration,
     OffsetDateTime,
@@ -41,6 +47,7 @@ from . import (
     UtcDateTime,
     columns,
     rfc3339_from_date_times,
+    texts_from_date_times,
 )
 from ._arrow_writes import ArrowMoments
 from ._blocks import COMPARE, DIFFERENCE, ROW, by_blocks, row_of
@@ -48,9 +55,9 @@ from .columns import NO_SECOND
 from ._datetime64 import split, test_errors
 from ._missing import is_missing, places_of
 from ._refusals import REFUSALS
-from ._words import one_offset
+from ._words import one_offset, to_int
 
-__all__ = ["MomentArray", "MomentDtype", "from_arrow", "from_block", "from_texts"]
+__all__ = ["MomentArray", "MomentDtype", "date_range", "from_arrow", "from_block", "from_texts", "merge_asof"]
 
 _PARTS = ("year", "month", "day", "hour", "minute", "second", "nanosecond", "offset_seconds")
 _DAY = numpy.datetime64("1970-01-01", "D")
@@ -71,9 +78,15 @@ _LAST_SECOND, _SECONDS_OF_NANOSECONDS = Timestamp.MAX.seconds, 2**63 // 1_000_00
 # The rows that become objects by one call.
 _ITEMS = 8_192
 
+# The name of the column of numbers by which two tables are merged.
+_KEY = "numbers of instants"
+
 # What a row compares with.
 _MOMENTS = (OffsetDateTime, UtcDateTime, Timestamp, datetime.datetime, numpy.datetime64, str)
-_UNITS = {unit.name.lower(): unit for unit in Unit}
+
+# The words of a DateOffset of pandas that are months, and that are lengths.
+_MONTHS = {"years": 12, "months": 1}
+_LENGTHS = ("weeks", "days", "hours", "minutes", "seconds", "microseconds")
 
 
 @register_extension_dtype
@@ -171,6 +184,11 @@ def _refuse_naive(values: Any) -> None:
     dtype = getattr(values, "dtype", None)
     if getattr(dtype, "kind", "") == "M" and getattr(dtype, "tz", None) is None:
         raise ValueError('a column of datetime64 has no offset: give it a zone, as .dt.tz_localize("UTC") does')
+
+
+def _is_zoned(values: Any) -> bool:
+    """Whether it is an array of pandas with a time zone."""
+    return isinstance(values, ExtensionArray) and isinstance(values.dtype, pandas.DatetimeTZDtype)
 
 
 def _rows_of_datetime64(values: Any) -> Any:
@@ -348,6 +366,9 @@ class MomentArray(ExtensionArray):
 
     def __setitem__(self, key: Any, value: Any) -> None:
         key = check_array_indexer(self, key)
+        if self._marks_gaps(key, value):
+            self._skips_gaps = True
+            return
         rows = _rows_of(value if is_list_like(value) else [value])
         self._rows[key] = rows if is_list_like(value) else rows[0]
 
@@ -356,7 +377,9 @@ class MomentArray(ExtensionArray):
             yield from _items_of(self._rows[start : start + _ITEMS])
 
     def __array__(self, dtype: Any = None, copy: Any = None) -> Any:
-        """The items as an array of objects."""
+        """The items as an array of objects, or the instants in UTC as datetime64."""
+        if dtype is not None and numpy.dtype(dtype).kind == "M":
+            return self._datetime64().astype(dtype, copy=False)
         items = numpy.fromiter(_items_of(self._rows), object, len(self))
         return items if dtype is None else items.astype(dtype, copy=False)
 
@@ -430,6 +453,21 @@ class MomentArray(ExtensionArray):
         """Which rows repeat the instant, or the gap, of a row before; with keep="last" of a row
         after, with keep=False of any other."""
         return pandas.Series(self._ranks()).duplicated(keep).to_numpy()
+
+    # Whether pandas before 2.1 asks for ends that pass over gaps: it marks them so in a copy, and
+    # then calls NumPy.
+    _skips_gaps = False
+
+    def _marks_gaps(self, key: Any, value: Any) -> bool:
+        """Whether the value is infinite, and the rows are the gaps."""
+        is_end = isinstance(value, float) and value in (float("inf"), -float("inf"))
+        return is_end and getattr(key, "dtype", None) == bool and bool((key == self.isna()).all())
+
+    def __array_ufunc__(self, ufunc: Any, method: str, *inputs: Any, **words: Any) -> Any:
+        names = {numpy.maximum: "cummax", numpy.minimum: "cummin"}
+        if method == "accumulate" and ufunc in names:
+            return self._accumulate(names[ufunc], skipna=self._skips_gaps)
+        return super().__array_ufunc__(ufunc, method, *inputs, **words)
 
     def _accumulate(self, name: str, *, skipna: bool = True, **words: Any) -> MomentArray:
         """The first instant up to each row, for `cummin`, or the last, for `cummax`."""
@@ -617,19 +655,39 @@ class MomentArray(ExtensionArray):
             return NotImplemented
         return self._change(*calls, numpy.asarray(other) if self._is_length(other) and is_list_like(other) else other)
 
+    def _moved(self, offset: Any, sign: int) -> Any:
+        """The column that a DateOffset of pandas makes, of months and lengths: the months come
+        first, as in pandas."""
+        if isinstance(offset, pandas.offsets.Tick):
+            return self + sign * pandas.Timedelta(offset)
+        words = offset.kwds or {"days": 1}
+        if type(offset) is not pandas.DateOffset or not words.keys() <= {*_MONTHS, *_LENGTHS}:
+            raise TypeError(
+                f"a column of moments takes lengths, and DateOffset of {', '.join([*_MONTHS, *_LENGTHS])}, not {offset!r}"
+            )
+        months = sum(size * words.get(name, 0) for name, size in _MONTHS.items())
+        length = pandas.Timedelta(**{"days": 0, **{name: words[name] for name in _LENGTHS if name in words}})
+        return self.add_months(sign * offset.n * months) + sign * offset.n * length
+
     def __add__(self, other: Any) -> Any:
+        if isinstance(other, pandas.offsets.BaseOffset):
+            return self._moved(other, 1)
         return self._sum(other, columns.moments_add, columns.each_moment_add)
 
     __radd__ = __add__
 
     def __sub__(self, other: Any) -> Any:
-        if isinstance(other, (MomentArray, OffsetDateTime)):
+        if isinstance(other, (MomentArray, OffsetDateTime)) or _is_zoned(other):
             return self.since(other)
+        if isinstance(other, pandas.offsets.BaseOffset):
+            return self._moved(other, -1)
         if isinstance(other, datetime.datetime) and not is_missing(other):
             return self.since(_as_date_time(other))
         return self._sum(other, columns.moments_subtract, columns.each_moment_subtract)
 
     def __rsub__(self, other: Any) -> Any:
+        if _is_zoned(other):
+            return MomentArray(_rows_of(other)).since(self)
         if not isinstance(other, (OffsetDateTime, datetime.datetime)) or is_missing(other):
             return NotImplemented
         return -self.since(_as_date_time(other))
@@ -655,13 +713,47 @@ class MomentArray(ExtensionArray):
                 part[statuses == MISSING] = _NO_LENGTH
         return pandas.array(counts.view("m8[ns]"), copy=False)
 
+    def min(self, *, axis: Any = None, skipna: bool = True) -> Any:
+        """The first instant. An index of pandas asks for it."""
+        return self._reduce("min", skipna=skipna)
+
+    def max(self, *, axis: Any = None, skipna: bool = True) -> Any:
+        """The last instant."""
+        return self._reduce("max", skipna=skipna)
+
     def _reduce(self, name: str, *, skipna: bool = True, keepdims: bool = False, **words: Any) -> Any:
-        if name not in ("min", "max"):
+        if name not in ("min", "max", "median", "mean", "std"):
             raise TypeError(f"a column of moments has no {name}")
-        found = self._item(_end_of(self._rows, name))
-        if not skipna and self.isna().any():
-            found = pandas.NA
+        is_gap = (not skipna and self.isna().any()) or self.isna().all()
+        if name == "std":
+            return pandas.NaT if is_gap else self._deviation(**words)
+        found = pandas.NA
+        if name in ("min", "max") and not is_gap:
+            found = self._item(_end_of(self._rows, name))
+        elif name == "median" and not is_gap:
+            found = self._quantile([0.5], "linear")[0]
+        elif not is_gap:
+            found = self._mean()
         return self._from_sequence([found]) if keepdims else found
+
+    def _lengths(self) -> tuple[OffsetDateTime, Any]:
+        """The first instant of a column that has one, and the durations to all from there."""
+        first = self.min()
+        return first, columns.moments_difference(self._rows[~self.isna()], first)
+
+    def _mean(self) -> OffsetDateTime:
+        """The mean of the instants, to the nanosecond below it, at the offset of the first."""
+        first, lengths = self._lengths()
+        # The sums of both halves of the seconds are in the range of 64 bits.
+        high, low = lengths["seconds"] >> 20, lengths["seconds"] & 0xFFFFF
+        whole = ((int(high.sum()) << 20) + int(low.sum())) * 1_000_000_000 + int(lengths["nanoseconds"].sum(dtype="int64"))
+        return first + Duration(0, whole // len(lengths))
+
+    def _deviation(self, ddof: int = 1, **words: Any) -> Any:
+        """The standard deviation of the instants, to the nanoseconds that a float has."""
+        _, lengths = self._lengths()
+        counts = pandas.Series(lengths["seconds"] * 1e9 + lengths["nanoseconds"])
+        return pandas.to_timedelta(counts.std(ddof=ddof), "ns")
 
     def _quantile(self, qs: Any, interpolation: str) -> MomentArray:
         """The moments at these shares of the column in its order, each at the offset of the one
@@ -698,18 +790,50 @@ class MomentArray(ExtensionArray):
         texts[known] = [pandas.NA if text is None else text for text in found]
         return texts
 
+    def formatted(self, description: str) -> Any:
+        """The text of each moment by a format description, and NA for a gap."""
+        texts, places = numpy.full(len(self), pandas.NA, object), numpy.flatnonzero(~self.isna())
+        try:
+            texts[places] = texts_from_date_times(self.parts()[places], description)
+        except Refused as refused:
+            if refused.count is None:
+                raise
+            raise type(refused)(int(places[refused.count])) from None
+        return texts
+
+    def strftime(self, pattern: str) -> Any:
+        """The text of each moment by a pattern of strftime, and NA for a gap."""
+        described = _formats.of_strftime(pattern)
+        for offset in numpy.unique(self._rows["offset_seconds"]).tolist():
+            _formats.test_offset(described, offset)
+        return self.formatted(described.text)
+
     def _formatter(self, boxed: bool = False) -> Callable[[Any], str]:
         return lambda item: "<NA>" if item is pandas.NA else _text(item)
 
     def astype(self, dtype: Any, copy: bool = True) -> Any:
-        """The column as another: of instants in UTC for datetime64, else as pandas makes it of the
-        items."""
+        """The column as another: of instants for datetime64, of texts of RFC 3339 for texts, else as
+        pandas makes it of the items."""
         dtype = pandas.api.types.pandas_dtype(dtype)
         if isinstance(dtype, MomentDtype):
             return self.copy() if copy else self
+        if isinstance(dtype, pandas.DatetimeTZDtype):
+            return pandas.DatetimeIndex(self._datetime64()).tz_localize("UTC").tz_convert(dtype.tz).array
         if getattr(dtype, "kind", "") == "M":
             return self._datetime64().astype(dtype, copy=False)
+        if isinstance(dtype, pandas.StringDtype) or getattr(dtype, "kind", "") == "U":
+            return self._as_texts(dtype)
         return super().astype(dtype, copy)
+
+    def _as_texts(self, dtype: Any) -> Any:
+        """The text that a column shows of each moment, as texts of a dtype."""
+        texts = self.texts("coerce")
+        for place in numpy.flatnonzero(pandas.isna(texts) & ~self.isna()):
+            texts[place] = _text(self[place])
+        if isinstance(dtype, pandas.StringDtype):
+            return pandas.array(texts, dtype)
+        texts[self.isna()] = "<NA>"
+        return texts.astype(dtype)
 
     def _datetime64(self, errors: str = "raise") -> Any:
         """The instants as datetime64 of nanoseconds in UTC. OverflowError beyond the years 1677 to
@@ -750,22 +874,17 @@ class MomentArray(ExtensionArray):
         """The same instants at another offset."""
         return self._change(columns.moments_to_offset, columns.each_moment_to_offset, offset_seconds)
 
-    def floor(self, unit: Union[str, Unit]) -> MomentArray:
-        """Each moment, rounded down to a unit by its own clocks."""
-        return self._change(columns.moments_truncate, columns.each_moment_truncate, _unit(unit))
+    def truncated_to(self, unit: Unit) -> MomentArray:
+        """Each moment, rounded down to a Unit by its own clocks."""
+        return self._change(columns.moments_truncate, columns.each_moment_truncate, unit)
+
+    def floor(self, step: Any) -> MomentArray:
+        """Each moment, rounded down to a step by its own clocks."""
+        return MomentArray(_steps.floor(self, step)._rows)
 
     def add_months(self, months: int) -> MomentArray:
         """Each moment some months later, on the last day of a month that is shorter."""
         return self._change(columns.moments_add_months, columns.each_moment_add_months, months)
-
-
-def _unit(unit: Union[str, Unit]) -> Unit:
-    """A unit, by its name."""
-    if isinstance(unit, str):
-        if unit.lower() not in _UNITS:
-            raise ValueError(f"a unit is one of {', '.join(_UNITS)}, not {unit!r}")
-        return _UNITS[unit.lower()]
-    return unit
 
 
 def _items_of(rows: Any) -> list[Any]:
@@ -784,9 +903,10 @@ def _text(moment: OffsetDateTime) -> str:
         return str(moment)
 
 
+@register_index_accessor("moment")
 @register_series_accessor("moment")
 class MomentAccessor:
-    """The accessor of a column of moments."""
+    """The accessor of a column or an index of moments."""
 
     def __init__(self, series: Any) -> None:
         if not isinstance(series.dtype, MomentDtype):
@@ -794,31 +914,35 @@ class MomentAccessor:
         self._series, self._array = series, series.array
 
     def _column(self, values: Any) -> Any:
+        if isinstance(self._series, pandas.Index):
+            return pandas.Index(values, name=self._series.name)
         return pandas.Series(values, self._series.index, name=self._series.name)
 
     def _integers(self, values: Any) -> Any:
         return self._column(pandas.arrays.IntegerArray(values.astype("int64"), self._array.isna()))
 
     def __getattr__(self, name: str) -> Any:
-        if name not in _PARTS:
-            raise AttributeError(f"a column of moments has no {name}")
-        return self._integers(self._array.parts()[name])
+        if name in _PARTS:
+            return self._integers(self._array.parts()[name])
+        if name in _steps.NUMBERS:
+            return self._integers(_steps.of_dates(self._array, _steps.NUMBERS[name], "int64", 0))
+        if name in _steps.TRUTHS:
+            found = _steps.of_dates(self._array, _steps.TRUTHS[name], bool, False)
+            return self._column(pandas.arrays.BooleanArray(found, self._array.isna()))
+        raise AttributeError(f"a column of moments has no {name}")
 
     def __dir__(self) -> Any:
-        return [*super().__dir__(), *_PARTS]
+        return [*super().__dir__(), *_PARTS, *_steps.NUMBERS, *_steps.TRUTHS]
+
+    @property
+    def date(self) -> Any:
+        """The local date of each moment, a Date, and NA for a gap."""
+        return self._column(_steps.of_dates(self._array, lambda date: date, object, pandas.NA))
 
     @property
     def seconds(self) -> Any:
         """The Unix second of each instant, rounded down."""
         return self._integers(numpy.where(self._array.isna(), 0, self._array._rows["seconds"]))
-
-    def _dates(self, read: Callable[[Date], int]) -> Any:
-        """A number of the local date of each moment, by one call for each date that there is."""
-        shown = self._array.parts()
-        keys = (shown["year"].astype("int64") << 16) | (shown["month"].astype("int64") << 8) | shown["day"]
-        dates, places = numpy.unique(keys, return_inverse=True)
-        values = [read(Date(int(key >> 16), int(key >> 8) & 255, int(key) & 255)) if key & 255 else 0 for key in dates]
-        return numpy.asarray(values, "int64")[places]
 
     def isocalendar(self) -> Any:
         """The ISO year, week and day, 1 for Monday, of the local date of each moment: a table."""
@@ -828,8 +952,10 @@ class MomentAccessor:
             ("week", lambda date: date.to_iso_week_date().week),
             ("day", lambda date: date.weekday() + 1),
         ):
-            found[name] = self._integers(self._dates(read))
-        return pandas.DataFrame(found, self._series.index)
+            values = _steps.of_dates(self._array, read, "int64", 0)
+            found[name] = pandas.arrays.IntegerArray(values, self._array.isna())
+        index = self._series if isinstance(self._series, pandas.Index) else self._series.index
+        return pandas.DataFrame(found, index)
 
     def to_utc(self) -> Any:
         """The same instants in UTC."""
@@ -839,10 +965,44 @@ class MomentAccessor:
         """The same instants at another offset, in seconds."""
         return self._column(self._array.to_offset(offset_seconds))
 
-    def floor(self, unit: Union[str, Unit]) -> Any:
-        """Each moment, rounded down to a unit by its own clocks: "day", "hour", "minute", "second"
-        or less."""
-        return self._column(self._array.floor(unit))
+    def floor(self, step: Any) -> Any:
+        """Each moment, rounded down by its own clocks to a unit from "day" to "nanosecond", to a
+        length that divides a day such as "15min", or to a "week" from Monday on, a "month",
+        "quarter" or "year"."""
+        return self._column(self._array.floor(step))
+
+    def ceil(self, step: Any) -> Any:
+        """Each moment, rounded up to a step as `floor` takes it."""
+        return self._column(_steps.ceil(self._array, step))
+
+    def round(self, step: Any) -> Any:
+        """Each moment at the nearest unit or length, as `floor` takes them; from the middle of two
+        at the even one, as pandas rounds."""
+        return self._column(_steps.nearest(self._array, step))
+
+    def describe(self) -> Any:
+        """The number of moments, their mean, their ends and their quartiles, as pandas has them of
+        datetime64."""
+        shares = {"min": 0, "25%": 0.25, "50%": 0.5, "75%": 0.75, "max": 1}
+        ends = self._array._quantile(list(shares.values()), "linear")
+        known = {"count": int((~self._array.isna()).sum()), "mean": self._array._reduce("mean"), **dict(zip(shares, ends))}
+        return pandas.Series(known, dtype=object, name=self._series.name)
+
+    def strftime(self, pattern: str) -> Any:
+        """The text of each moment by a pattern of strftime, as the method of its items."""
+        return self._column(self._array.strftime(pattern))
+
+    def format(self, description: str) -> Any:
+        """The text of each moment by a format description, as the method of its items."""
+        return self._column(self._array.formatted(description))
+
+    def day_name(self) -> Any:
+        """The name of the day of the week of each moment."""
+        return self.format("[weekday]")
+
+    def month_name(self) -> Any:
+        """The name of the month of each moment."""
+        return self.format("[month repr:long]")
 
     def add_months(self, months: int) -> Any:
         """Each moment some months later, at the same local time."""
@@ -861,6 +1021,46 @@ class MomentAccessor:
         """The instants as datetime64 of pandas in UTC. OverflowError beyond the years 1677 to 2262,
         or with errors="coerce" NaT."""
         return self._column(pandas.DatetimeIndex(self._array._datetime64(errors)).tz_localize("UTC"))
+
+
+def date_range(start: Any, end: Any = None, periods: Any = None, freq: Any = "day") -> MomentArray:
+    """The moments at each step from a first one on, at its offset: a number of periods, or up to an
+    end. A step is a unit, a length such as "15min" of any size, a "week", a "month", a "quarter"
+    or a "year"."""
+    if (end is None) == (periods is None):
+        raise TypeError("date_range() needs an end or a number of periods, and takes one of them")
+    last = None if end is None else _as_date_time(end)
+    return MomentArray(_steps.rows_from(_as_date_time(start), last, None if periods is None else to_int(periods), freq))
+
+
+def _keys_of(left: MomentArray, right: MomentArray) -> tuple[Any, Any, bool]:
+    """Numbers in the order of the instants of two columns, and whether they are nanoseconds."""
+    keys = MomentArray._concat_same_type([left, right])._values_for_factorize()[0]
+    is_near = keys.dtype != object
+    if not is_near:
+        keys = numpy.unique(keys, return_inverse=True)[1]
+    return keys[: len(left)], keys[len(left) :], is_near
+
+
+def merge_asof(
+    left: Any, right: Any, on: Any = None, left_on: Any = None, right_on: Any = None, tolerance: Any = None, **words: Any
+) -> Any:
+    """pandas.merge_asof by columns of moments, which are both in order. A tolerance is a Duration
+    or a timedelta. The other words are those of pandas."""
+    names = [on, on] if on is not None else [left_on, right_on]
+    if None in names or on is not None and (left_on, right_on) != (None, None):
+        raise TypeError("merge_asof() needs the name of a column of moments, as `on`, or as `left_on` and `right_on`")
+    arrays = [MomentArray._from_sequence(frame[name]) for frame, name in zip((left, right), names)]
+    for array, side in zip(arrays, ("left", "right")):
+        if array.isna().any():
+            raise ValueError(f"the column of moments of the {side} table has a gap: drop it")
+    *keys, is_near = _keys_of(*arrays)
+    if tolerance is not None and not is_near:
+        raise OverflowError("a tolerance needs moments of the years 1678 to 2261")
+    whole = None if tolerance is None else Duration.of(tolerance).whole_nanoseconds()
+    first = left.assign(**{_KEY: keys[0]})
+    other = (right.drop(columns=on) if on is not None else right).assign(**{_KEY: keys[1]})
+    return pandas.merge_asof(first, other, on=_KEY, tolerance=whole, **words).drop(columns=_KEY)
 
 
 def from_texts(texts: Any, errors: str = "raise", offset_seconds: Any = None) -> MomentArray:

@@ -18,7 +18,19 @@ import unittest
 from array import array
 
 import muxandu
-from muxandu import Date, DateTimeParts, Duration, OffsetDateTime, PlainDateTime, Refused, Time, Timestamp, UtcDateTime, UtcOffset
+from muxandu import (
+    Date,
+    DateTimeParts,
+    Duration,
+    IsoWeekDate,
+    OffsetDateTime,
+    PlainDateTime,
+    Refused,
+    Time,
+    Timestamp,
+    UtcDateTime,
+    UtcOffset,
+)
 from muxandu import _extension as engine
 from muxandu._refusals import REFUSALS
 
@@ -309,6 +321,13 @@ def refused(call):
         pass
 
 
+def refused_by_python(call):
+    try:
+        call()
+    except ValueError:
+        pass
+
+
 class Kept(unittest.TestCase):
     """Calls that keep nothing: no blocks of memory, no references."""
 
@@ -337,6 +356,21 @@ class Kept(unittest.TestCase):
             Timestamp(0) - OffsetDateTime(2024, 1, 1),
             Timestamp(0) < OffsetDateTime(2024, 1, 1),
         ),
+        "values of datetime": lambda: (
+            OffsetDateTime(2024, 2, 29, offset_seconds=60).to_datetime(),
+            OffsetDateTime(2024, 2, 29, offset_seconds=-60).to_datetime(),
+            Timestamp(0).to_datetime(),
+            PlainDateTime(2024, 2, 29).to_datetime(),
+        ),
+        "a year that datetime lacks": lambda: refused_by_python(PlainDateTime(0, 1, 1).to_datetime),
+        "parts and ISO weeks": lambda: (OffsetDateTime(2024, 2, 29).__reduce__(), Date(2024, 2, 29).to_iso_week_date()),
+        "units by name": lambda: (
+            Duration(hours=1),
+            refused(lambda: Duration(hours=1, months=1)),
+            refused(lambda: Duration(days=2**70)),
+        ),
+        "the clock now": lambda: (OffsetDateTime.now(60), UtcDateTime.now(), refused(lambda: OffsetDateTime.now(10**6))),
+        "formats": lambda: (f"{OffsetDateTime(2024, 2, 29):%d.%m.%Y}", f"{Date(2024, 2, 29):%d}", f"{Time(1):%H}"),
         "sums and hashes": lambda: hash(Timestamp(5) + Duration(7)),
         "texts": lambda: (str(Timestamp(10**6, 5)), repr(OffsetDateTime(2024, 2, 29)), str(Date(2024, 2, 29))),
     }
@@ -367,7 +401,7 @@ class Kept(unittest.TestCase):
     def test_the_extension_holds_what_it_is_given(self):
         from muxandu._words import as_bytes
 
-        words = (REFUSALS, as_bytes)
+        words = (REFUSALS, as_bytes, IsoWeekDate)
         before = [sys.getrefcount(word) for word in words]
         engine.bind(*words)
         self.assertEqual([sys.getrefcount(word) for word in words], before)

@@ -91,7 +91,7 @@ class Durations(unittest.TestCase):
             lambda: Duration(0.5),
             lambda: Duration("1"),
             lambda: Duration(1, 2, 3),
-            lambda: Duration(weeks=1),
+            lambda: Duration(months=1),
             lambda: Duration(1, seconds=1),
             lambda: Timestamp(0) + 1,
             lambda: Timestamp(0) - 1,
@@ -563,7 +563,7 @@ class Package(unittest.TestCase):
         for kind, words in (
             (Timestamp, "seconds nanoseconds"),
             (OffsetDateTime, "year month day hour minute second nanosecond offset_seconds"),
-            (Duration, "seconds nanoseconds"),
+            (Duration, "seconds nanoseconds weeks days hours minutes milliseconds microseconds"),
             (Date, "year month day"),
         ):
             self.assertEqual(list(inspect.signature(kind).parameters), words.split())

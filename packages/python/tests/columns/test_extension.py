@@ -67,7 +67,15 @@ def data_for_grouping():
 
 
 class TestCasting(base.BaseCastingTests):
-    pass
+    """A column as texts has those that it shows, of RFC 3339, and not `str` of each item."""
+
+    def test_astype_str(self, data):
+        expected = pandas.Series([item.to_rfc3339() for item in data[:5]], dtype=str)
+        self.assert_series_equal(pandas.Series(data[:5]).astype(str), expected)
+
+    def test_astype_string(self, data):
+        expected = pandas.Series([item.to_rfc3339() for item in data[:5]], dtype="string")
+        self.assert_series_equal(pandas.Series(data[:5]).astype("string"), expected)
 
 
 class TestConstructors(base.BaseConstructorsTests):
@@ -150,7 +158,7 @@ class TestComparisons(base.BaseComparisonOpsTests):
 
 
 class TestReductions(base.BaseNoReduceTests):
-    """A least and a greatest moment there is, and no other reduction."""
+    """Ends, a mean, a median and a deviation there are, and no other reduction."""
 
     @pytest.mark.parametrize("skipna", [True, False])
     def test_reduce_series_numeric(self, data, all_numeric_reductions, skipna):
@@ -158,6 +166,12 @@ class TestReductions(base.BaseNoReduceTests):
         if all_numeric_reductions in ("min", "max"):
             place = 0 if all_numeric_reductions == "min" else len(data) - 1
             assert getattr(series, all_numeric_reductions)(skipna=skipna) == data[place]
+            return
+        if all_numeric_reductions in ("mean", "median"):
+            assert data[0] < getattr(series, all_numeric_reductions)(skipna=skipna) < data[len(data) - 1]
+            return
+        if all_numeric_reductions == "std":
+            assert pandas.Timedelta(0) < series.std(skipna=skipna) < series.max() - series.min()
             return
         with pytest.raises(TypeError):
             getattr(series, all_numeric_reductions)(skipna=skipna)

@@ -66,8 +66,8 @@ class Columns(unittest.TestCase):
         self.assertEqual(at.moment.floor("day").moment.to_rfc3339().tolist()[0], "2024-02-29T00:00:00+02:00")
         self.assertEqual(at.moment.floor(Unit.SECOND).moment.to_rfc3339().tolist()[2], "1969-12-31T23:59:59-23:00")
         self.assertEqual(at.moment.add_months(12).moment.to_rfc3339().tolist()[0], "2025-02-28T00:30:00+02:00")
-        with self.assertRaisesRegex(ValueError, "a unit is one of day, hour"):
-            at.moment.floor("week")
+        with self.assertRaisesRegex(ValueError, "a step is one of day, hour"):
+            at.moment.floor("fortnight")
 
     def test_isocalendar_is_that_of_datetime(self):
         days = [

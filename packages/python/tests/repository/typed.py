@@ -50,6 +50,20 @@ orders: List[int] = columns.moments_compare(rows, rows).tolist()
 moved, told = columns.each_moment_to_offset([shown, None], UtcOffset.UTC)
 moved_row, told_status = columns.each_moment_add(moved, [Duration(1), timedelta(1)])[0][0], told[1] == muxandu.MISSING
 plain_rows, _ = columns.moments_from_each_plain_text(["1970-01-01T00:00:00", None], [0, UtcOffset.UTC])
+hour_long: Duration = Duration(hours=1, minutes=UtcOffset.UTC)
+ends: Tuple[OffsetDateTime, OffsetDateTime] = (OffsetDateTime.MIN, OffsetDateTime.MAX)
+week: int = Date.today().to_iso_week_date().week
+python_moment: datetime = shown.to_datetime()
+
+
+def matched(value: OffsetDateTime) -> int:
+    """The year of a date-time of February."""
+    match value:
+        case OffsetDateTime(year, 2, _):
+            return year
+    return 0
+
+
 full: Tuple[Time, UtcOffset] = Time.from_text_with_offset("12:34:56Z")
 
 
@@ -70,6 +84,8 @@ shown - plain  # wrong
 number: int = later - at  # wrong
 shown.to_offset("Z")  # wrong
 Date(2024, 2)  # wrong
+Duration(hours=0.5)  # wrong
+Duration(months=1)  # wrong
 OffsetDateTime(2024, 2, 29, zone=0)  # wrong
 at.seconds = 5  # wrong
 at.to_civil()  # wrong
