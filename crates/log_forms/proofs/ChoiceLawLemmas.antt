@@ -61,14 +61,14 @@ best-is : (readers reader : ℕ) (lines : List (List ℕ)) → reader < readers 
 best-is zero reader lines here some most first = absurd (omega (arith, here))
 best-is (suc readers) reader lines here some most first = elim (cases_Bool (nat_lt reader readers)) [
   | inl t ↦
-    let earlier : reader < readers = grind (arith, nat_tests, t) in
-    let before = best-is readers reader lines earlier some (λ other h. most other (omega (arith, h))) first in
-    rw (best-step readers lines) (rw before (better-stays (count_read reader lines, reader) readers (count_read readers lines)
-    (most readers (omega (arith)))))
+      let earlier : reader < readers = grind (arith, nat_tests, t) in
+      let before = best-is readers reader lines earlier some (λ other h. most other (omega (arith, h))) first in
+      rw (best-step readers lines) (rw before (better-stays (count_read reader lines, reader) readers (count_read readers lines)
+      (most readers (omega (arith)))))
   | inr f ↦
-    let late : readers ≤ reader = grind (arith, nat_tests, f) in
-    let same : readers ≡ reader = omega (arith, late, here) in
-    rw same (best-last reader lines some first)
+      let late : readers ≤ reader = grind (arith, nat_tests, f) in
+      let same : readers ≡ reader = omega (arith, late, here) in
+      rw same (best-last reader lines some first)
 ]
 
 -- a reader counts no more lines than there are
@@ -102,8 +102,8 @@ pub both-chosen : (first second : List ℕ) (lines : List (List ℕ)) (reader : 
 both-chosen first second lines reader inside both before =
     let two = first ∷ second ∷ [] in
     let best = best-is READERS reader two inside (omega (arith, both))
-      (λ other here. let most = count_read-most other two in omega (arith, both, most))
-      (λ other here. let less = before other here in omega (arith, both, less)) in
+    (λ other here. let most = count_read-most other two in omega (arith, both, most))
+    (λ other here. let less = before other here in omega (arith, both, less)) in
     rw best (rw both refl)
 
 if_both-not : (best : ℕ × ℕ) (others : Option ℕ) → best.0 < 2 → if_both best others ≡ others

@@ -29,15 +29,9 @@ any_behind : (readers reader : ℕ) (line : List ℕ) → readers ≡ suc reader
 unfolding any_reads
 any_behind readers reader line e = rw e refl
 
-pub any_at : (readers : ℕ) (line : List ℕ) → readers ≢ 0
-    → any_reads readers line ≡ (any_reads (readers - 1) line || reads (readers - 1) line)
-any_at readers line some = any_behind readers (readers - 1) line (omega (arith, some))
-
 pub any_zero : (line : List ℕ) → any_reads 0 line ≡ false
 unfolding any_reads
 any_zero line = refl
-
-pub ruleset any_next = (any_at, any_zero)
 
 -- ---- the forms at a place
 

@@ -224,7 +224,7 @@ static PyMethodDef functions[] = {CALLS_OF_FUNCTIONS{"pack_texts", pack_texts, M
 
 /* The classes and the numbers of values, as pickles take them. */
 #define REDUCE(kind)                                                                                                   \
-    METHOD("__reduce__", kind##_reduced, NO_WORDS, "$self, /", "The class, and the arguments that make the value.")
+    METHOD("__reduce__", kind##_reduce, NO_WORDS, "$self, /", "The class, and the arguments that make the value.")
 #define TO_DATETIME(made, which)                                                                                       \
     METHOD("to_datetime", made, NO_WORDS, "$self, /",                                                                  \
            "The datetime.datetime " which " that shows the same, to the microsecond, which is rounded down.")

@@ -3,7 +3,7 @@
 /* Pickles. */
 
 /* The class of a value, with the numbers that its constructor takes. */
-static PyObject *reduced(PyObject *self, const int64_t *numbers, Py_ssize_t count) {
+static PyObject *reduce_value(PyObject *self, const int64_t *numbers, Py_ssize_t count) {
     Py_ssize_t place;
     PyObject *parts = PyTuple_New(count), *made;
     for (place = 0; parts && place < count; place++) {
@@ -16,10 +16,10 @@ static PyObject *reduced(PyObject *self, const int64_t *numbers, Py_ssize_t coun
 }
 
 #define REDUCED(kind, ...)                                                                                             \
-    static PyObject *kind##_reduced(PyObject *self, PyObject *unused) {                                                \
+    static PyObject *kind##_reduce(PyObject *self, PyObject *unused) {                                                 \
         const int64_t numbers[] = {__VA_ARGS__};                                                                       \
         (void)unused;                                                                                                  \
-        return reduced(self, numbers, sizeof numbers / sizeof *numbers);                                               \
+        return reduce_value(self, numbers, sizeof numbers / sizeof *numbers);                                          \
     }
 #define OF_CLOCK(part) VALUE(Clock, self).part
 #define OF_DAY OF_CLOCK(year), OF_CLOCK(month), OF_CLOCK(day)
@@ -27,7 +27,7 @@ static PyObject *reduced(PyObject *self, const int64_t *numbers, Py_ssize_t coun
 
 REDUCED(OffsetDateTime, OF_DAY, OF_TIME, OF_CLOCK(offset_seconds))
 REDUCED(UtcDateTime, OF_DAY, OF_TIME)
-#define PlainDateTime_reduced UtcDateTime_reduced
+#define PlainDateTime_reduce UtcDateTime_reduce
 REDUCED(Time, OF_TIME)
 REDUCED(Timestamp, VALUE(Timestamp, self).seconds, VALUE(Timestamp, self).nanoseconds)
 REDUCED(Duration, VALUE(Duration, self).seconds, VALUE(Duration, self).nanoseconds)

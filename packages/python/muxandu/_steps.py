@@ -152,8 +152,8 @@ def nearest(array: Any, step: Any) -> Any:
 
 
 def rows_from(start: OffsetDateTime, end: Optional[OffsetDateTime], count: Optional[int], step: Any) -> Any:
-    """The rows of moments at each step from a first one on, at its offset: a count of them, or up to
-    a last one. Months are counted from the first one."""
+    """The rows of moments at each step from a first one on, at its offset: a count of them, or
+    up to a last one. Months are counted from the first one."""
     span = _span_of(step)
     if span and span.months:
         return _rows_by_months(start, end, count, span.months)

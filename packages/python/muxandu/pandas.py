@@ -655,7 +655,7 @@ class MomentArray(ExtensionArray):
             return NotImplemented
         return self._change(*calls, numpy.asarray(other) if self._is_length(other) and is_list_like(other) else other)
 
-    def _moved(self, offset: Any, sign: int) -> Any:
+    def _move(self, offset: Any, sign: int) -> Any:
         """The column that a DateOffset of pandas makes, of months and lengths: the months come
         first, as in pandas."""
         if isinstance(offset, pandas.offsets.Tick):
@@ -671,7 +671,7 @@ class MomentArray(ExtensionArray):
 
     def __add__(self, other: Any) -> Any:
         if isinstance(other, pandas.offsets.BaseOffset):
-            return self._moved(other, 1)
+            return self._move(other, 1)
         return self._sum(other, columns.moments_add, columns.each_moment_add)
 
     __radd__ = __add__
@@ -680,7 +680,7 @@ class MomentArray(ExtensionArray):
         if isinstance(other, (MomentArray, OffsetDateTime)) or _is_zoned(other):
             return self.since(other)
         if isinstance(other, pandas.offsets.BaseOffset):
-            return self._moved(other, -1)
+            return self._move(other, -1)
         if isinstance(other, datetime.datetime) and not is_missing(other):
             return self.since(_as_date_time(other))
         return self._sum(other, columns.moments_subtract, columns.each_moment_subtract)
@@ -790,7 +790,7 @@ class MomentArray(ExtensionArray):
         texts[known] = [pandas.NA if text is None else text for text in found]
         return texts
 
-    def formatted(self, description: str) -> Any:
+    def format_texts(self, description: str) -> Any:
         """The text of each moment by a format description, and NA for a gap."""
         texts, places = numpy.full(len(self), pandas.NA, object), numpy.flatnonzero(~self.isna())
         try:
@@ -806,14 +806,14 @@ class MomentArray(ExtensionArray):
         described = _formats.of_strftime(pattern)
         for offset in numpy.unique(self._rows["offset_seconds"]).tolist():
             _formats.test_offset(described, offset)
-        return self.formatted(described.text)
+        return self.format_texts(described.text)
 
     def _formatter(self, boxed: bool = False) -> Callable[[Any], str]:
         return lambda item: "<NA>" if item is pandas.NA else _text(item)
 
     def astype(self, dtype: Any, copy: bool = True) -> Any:
-        """The column as another: of instants for datetime64, of texts of RFC 3339 for texts, else as
-        pandas makes it of the items."""
+        """The column as another: of instants for datetime64, of texts of RFC 3339 for texts, else
+        as pandas makes it of the items."""
         dtype = pandas.api.types.pandas_dtype(dtype)
         if isinstance(dtype, MomentDtype):
             return self.copy() if copy else self
@@ -994,7 +994,7 @@ class MomentAccessor:
 
     def format(self, description: str) -> Any:
         """The text of each moment by a format description, as the method of its items."""
-        return self._column(self._array.formatted(description))
+        return self._column(self._array.format_texts(description))
 
     def day_name(self) -> Any:
         """The name of the day of the week of each moment."""
