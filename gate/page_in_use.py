@@ -70,6 +70,14 @@ def fields_of(page):
             yield node["name"]["value"], invalid == ["true"], node.get("description", {}).get("value", "")
 
 
+def settled(read, wanted):
+    """What is read once it is as wanted, or after ten seconds: a reader of the screen is told of a change a little later."""
+    end = time.monotonic() + 10
+    while (found := read()) != wanted and time.monotonic() < end:
+        time.sleep(0.1)
+    return found
+
+
 def use_keys(browser, address):
     """Uses the page by keys alone: what is wrong of each thing that is tried."""
     page = Page(browser, address, 900)
@@ -81,7 +89,11 @@ def use_keys(browser, address):
     page = Page(browser, address, 900)
     page.type("2023-02-29T00:00:00Z")
     wanted = [(name, name == NAMES[0], f"{NAMES[0]} DAY_OF_MONTH " if name == NAMES[0] else "") for name in NAMES]
-    told = [(name, wrong, text[: len(like[2])] or text) for (name, wrong, text), like in zip(fields_of(page), wanted)]
+
+    def beginnings():
+        return [(name, wrong, text[: len(like[2])] or text) for (name, wrong, text), like in zip(fields_of(page), wanted)]
+
+    told = settled(beginnings, wanted)
     yield "a refusal describes its field, and no other", None if told == wanted else f"but {told}"
     page.type("0")
     page.press("Tab")
@@ -89,7 +101,7 @@ def use_keys(browser, address):
     page.press("Enter")
     said = page.value(SAID)
     yield "what is typed is answered", None if said == "1970-01-01T01:00:00+01:00" else f"with {said}"
-    told = [text for _, _, text in fields_of(page)]
+    told = settled(lambda: [text for _, _, text in fields_of(page)], [""] * 3)
     yield "where nothing is refused, nothing describes a field", None if told == [""] * 3 else f"but {told}"
     again = Page(browser, page.value("document.getElementById('link').href"), 900)
     said = again.value(SAID)
