@@ -70,7 +70,7 @@ def fields_of(page):
             yield node["name"]["value"], invalid == ["true"], node.get("description", {}).get("value", "")
 
 
-def settled(read, wanted):
+def read_until(read, wanted):
     """What is read once it is as wanted, or after ten seconds: a reader of the screen is told of a change a little later."""
     end = time.monotonic() + 10
     while (found := read()) != wanted and time.monotonic() < end:
@@ -93,7 +93,7 @@ def use_keys(browser, address):
     def beginnings():
         return [(name, wrong, text[: len(like[2])] or text) for (name, wrong, text), like in zip(fields_of(page), wanted)]
 
-    told = settled(beginnings, wanted)
+    told = read_until(beginnings, wanted)
     yield "a refusal describes its field, and no other", None if told == wanted else f"but {told}"
     page.type("0")
     page.press("Tab")
@@ -101,7 +101,7 @@ def use_keys(browser, address):
     page.press("Enter")
     said = page.value(SAID)
     yield "what is typed is answered", None if said == "1970-01-01T01:00:00+01:00" else f"with {said}"
-    told = settled(lambda: [text for _, _, text in fields_of(page)], [""] * 3)
+    told = read_until(lambda: [text for _, _, text in fields_of(page)], [""] * 3)
     yield "where nothing is refused, nothing describes a field", None if told == [""] * 3 else f"but {told}"
     again = Page(browser, page.value("document.getElementById('link').href"), 900)
     said = again.value(SAID)
