@@ -28,14 +28,15 @@ def run_over(program, source, feed=None, room=None):
     """
 
     def limit():
-        if room is not None:
-            resource.setrlimit(resource.RLIMIT_FSIZE, (room, room))
+        resource.setrlimit(resource.RLIMIT_FSIZE, (room, room))
 
     command = [program] if isinstance(program, str) else program
+    # A start with nothing to do before it copies no memory of this process.
+    before = None if room is None else limit
     with tempfile.TemporaryFile() as sink:
         # The signal of a write past the limit stays ignored, as Python has it, so the write itself fails.
         with subprocess.Popen(
-            command, stdin=source, stdout=sink, stderr=subprocess.PIPE, preexec_fn=limit, restore_signals=False
+            command, stdin=source, stdout=sink, stderr=subprocess.PIPE, preexec_fn=before, restore_signals=False
         ) as running:
             try:
                 if feed is not None:

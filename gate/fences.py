@@ -26,7 +26,7 @@ PAGES = (
 
 # The kinds of blocks, by the tool that reads them and by the page. Of a kind that ends with `*` more words may follow.
 READERS = {
-    "javascript": {"docs/guide/JAVASCRIPT.md": ("js", "text"), "packages/javascript/README.md": ("js", "text")},
+    "javascript": {"docs/guide/JAVASCRIPT.md": ("js", "js packages/*", "text"), "packages/javascript/README.md": ("js", "text")},
     "library": {"docs/guide/C.md": ("c", "rust", "python", "sh", "text")},
     "newcomer": {
         "README.md": ("sh", "c", "python", "rust package", "mermaid"),
@@ -38,7 +38,7 @@ READERS = {
         "docs/guide/POSTGRESQL.md": ("sh",),
         "docs/guide/PROGRAM.md": ("sh",),
         "docs/guide/PYTHON.md": ("sh",),
-        "docs/guide/RUST.md": ("toml",),
+        "docs/guide/RUST.md": ("toml", "rust package"),
         "docs/guide/SQL.md": ("sh",),
         "docs/guide/STAMPS.md": ("sh",),
         "packages/python/README.md": ("python",),
@@ -52,7 +52,6 @@ READERS = {
         "docs/guide/CALLING.md": ("rust", "rust program"),
         "docs/guide/COOKBOOK.md": ("rust", "rust program"),
         "docs/guide/PROGRAM.md": ("lines", "sh run *"),
-        "docs/reference/DEFINITIONS.md": ("rust", "text"),
         "docs/proofs/STATEMENT.md": ("rust", "text"),
     },
     "postgres": {"docs/guide/POSTGRESQL.md": ("sql", "text")},

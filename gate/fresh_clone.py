@@ -180,6 +180,9 @@ class FreshClone:
             "TMPDIR": os.path.join(self.place, "temporary files"),
             "CARGO_HOME": os.path.join(self.place, "home", ".cargo"),
             "CARGO_NET_OFFLINE": "true",
+            # each build is for one run, in which information for debuggers takes as long as the rest
+            "CARGO_INCREMENTAL": "0",
+            "CARGO_PROFILE_DEV_DEBUG": "0",
             "npm_config_offline": "true",
             "npm_config_update_notifier": "false",
             "PIP_NO_INDEX": "1",
@@ -214,7 +217,7 @@ class FreshClone:
         """Runs commands of bash, and gives the status. Where the step is asked to end, so are they."""
         words = ["timeout", "--kill-after=10", str(LONGEST), "bash", "-c", script]
         silent = dict.fromkeys(("stdin", "stdout", "stderr"), subprocess.DEVNULL)
-        with subprocess.Popen(words, cwd=folder, env=self.variables(), start_new_session=True, **silent) as process:
+        with subprocess.Popen(words, cwd=folder, env=self.variables(), process_group=0, **silent) as process:
             try:
                 return process.wait()
             except BaseException:

@@ -1,5 +1,5 @@
-"""Cases of gate/gate_tests over the judges of wrong bodies and of promises, `refused` and `promises`: what they make of the lines
-that a check prints. recorded_checks.txt has such lines, of checks of line_devices."""
+"""Cases of gate/gate_tests over the judges of wrong bodies, promises and callers, `refused`, `promises` and `root_line`: what they make of
+the lines that a check prints. recorded_checks.txt has such lines, of checks of line_devices."""
 
 import contextlib
 import io
@@ -7,6 +7,7 @@ import os
 import re
 import tempfile
 from dataclasses import replace
+from unittest import mock
 
 from shared import verdicts
 from shared.gate import GATE, REPOSITORY, SHARED_FOLDER, Tally, read_text, write_text
@@ -16,6 +17,8 @@ from verdict_tests import Files
 
 refused = load("refused", os.path.join(GATE, "refused"))
 promises = load("promises", os.path.join(GATE, "promises"))
+refused_memory = load("refused_memory", os.path.join(GATE, "refused_memory"))
+root_line = load("root_line", os.path.join(GATE, "root_line"))
 
 # What a check printed, by what was wrong.
 RECORDED = dict(re.findall(r"^== (.*)\n((?:(?!== ).*\n)*)", read_text(os.path.join(GATE, "recorded_checks.txt")), re.M))
@@ -24,6 +27,9 @@ WITH_OTHER_NAMES = RECORDED["a name that the answers use is another"]
 WITH_NO_NAME = RECORDED["a name that is not there"]
 WITHOUT_A_PROMISE = RECORDED["items without its promise"]
 OUT_OF_RANGE = RECORDED["a turn that goes on too far, and a difference below zero"]
+OF_WEEKDAYS, OF_LAST_WEEK, OF_ROW_BEFORE = (
+    RECORDED[f"a body and its definition, of {part}"] for part in ("weekdays", "the last week", "the row before")
+)
 
 
 def verdict_on(function, clause, printed=WITH_WRONG_BODIES):
@@ -116,6 +122,77 @@ def a_body_that_fails_at_no_clause_is_not_refused():
 
 def a_body_of_which_nothing_is_said_is_left_open():
     is_judged(None, ("devices::Device::clear", "ensures"), ("send", "sent"))
+
+
+def twin_verdict_on(printed, function, twin, clause):
+    """Whether a twin of zones that changes this function is refused at this clause of another, by what a check printed."""
+    found, left_out = refused.said_of_functions("zones", printed), refused.goals_left_out("zones", printed)
+    return refused.twin_verdict(Wrong("", "", "", function, clause, twin), "zones", found, left_out)
+
+
+def a_twin_is_refused_where_a_lemma_of_the_clause_fails():
+    """In the file of answers, or in a lemma that stands on one that fails; and at the named clause alone."""
+    for printed, function, twin, clause, wanted in (
+        (OF_ROW_BEFORE, "tables::row_before", "tables::last", "ensures", True),
+        (OF_WEEKDAYS, "rule_day::nth_weekday", "rule_day::nth_weekday", "place", True),
+        (OF_WEEKDAYS, "rule_day::days_to_week", "rule_day::nth_weekday", "value", False),
+    ):
+        found, told = twin_verdict_on(printed, function, twin, clause)
+        assert found is wanted, f"{function}, {twin}, {clause}: {found}, {told}"
+    assert told == "rule_day::nth_weekday fails at returns-clause-place, and not at value", told
+
+
+def a_twin_whose_own_function_fails_is_not_refused():
+    """Its body and its definition differ then, or its proof names the old one."""
+    found, told = twin_verdict_on(OF_LAST_WEEK, "rule_day::days_to_week", "rule_day::nth_weekday", "place")
+    assert found is False and "its body and its definition differ" in told, told
+    found, told = twin_verdict_on(OF_WEEKDAYS, "rule_day::nth_weekday", "rule_day::nth_weekday", "value")
+    assert found is False and "its body and its definition differ" in told, told
+
+
+def a_twin_that_is_proved_is_not_refused():
+    found, told = twin_verdict_on(OF_ROW_BEFORE, "tables::row_before", "tables::count_at", "value")
+    assert found is False and told == "NOT REFUSED: tables::count_at is proved", told
+
+
+def bodies_that_come_too_late_are_left():
+    """A run that is too late tries none, and says of how many bodies that is so; another tries each."""
+    body, twin = Wrong("", "a", "", "sums::add", "ensures"), Wrong("", "b", "", "sums::add", "ensures", "laws::sums")
+    for why, late, judged in (("it is late", 2, []), (None, 0, [[body], [twin]])):
+        with contextlib.ExitStack() as stack:
+            for name, answer in (
+                ("bodies_to_try", ([body, twin], [])), ("a_round", ([body], {})), ("try_round", ({": a": (True, "")}, {})),
+                ("try_twin", (True, "")), ("why_late", why), ("place_of", ""), ("crate_at", mock.Mock()),
+            ):  # fmt: skip
+                stack.enter_context(mock.patch.object(refused, name, lambda *_, answer=answer: answer))
+            told = []
+            trial = refused.Trial("", "one", refused.Room(), lambda some, _, told=told: told.append([it[0] for it in some]))
+            trial.try_over("", True, {""}, set())
+        assert (trial.late, [it for it in told if it]) == (late, judged), (trial.late, told)
+
+
+def a_twin_of_which_nothing_is_said_is_left_open():
+    for function, twin in (("tables::row_before", "laws::none"), ("tables::none", "tables::last")):
+        assert twin_verdict_on(OF_ROW_BEFORE, function, twin, "ensures")[0] is None, function
+
+
+def a_lemma_that_names_what_is_no_more_refuses_no_twin():
+    """The lemma then says nothing of the definition."""
+    named = OF_ROW_BEFORE.replace("as printed, the two types first differ", "`row_at` is not in scope, and the two types differ")
+    assert refused.goals_left_out("zones", OF_ROW_BEFORE) == {"zones::tables::last": {"returns"}}
+    assert refused.goals_left_out("zones", named) == {}
+    found, told = twin_verdict_on(named, "tables::row_before", "tables::last", "ensures")
+    assert found is False and "name what is no more" in told, told
+
+
+def a_lemma_that_a_check_does_not_name_is_refused_with_the_others():
+    """Of many that stand on one, a check names three; unless another lemma names what is no more, which they may stand on."""
+    many = OF_ROW_BEFORE.replace("was not checked: last_row_by", "were not checked: a, b, c (via a) and 2 more")
+    many = many.replace("1 declaration that depends on `last_row`", "5 declarations that depend on `last_row`")
+    assert refused.goals_left_out("zones", many) == {"zones::tables::last": {"returns"}}
+    other = "./proofs/RuleLemmas.antt:1:1: error: `other`: `gone` is not in scope\n"
+    assert refused.goals_left_out("zones", other + many) == {}
+    assert refused.goals_left_out("zones", other + OF_ROW_BEFORE) == {"zones::tables::last": {"returns"}}
 
 
 def room_of_one():
@@ -272,6 +349,30 @@ def a_sample_that_is_not_refused_has_its_crate_tried():
         assert read_text(os.path.join(root, "crates", "sums", "wrong", "VERDICTS")).count("#") == 4
 
 
+def twins_are_tried_one_by_one():
+    """After the other bodies, each in a check of its own; one that changes no definition is none."""
+    with stub_crates(sums="one two") as (root, left):
+        edits, real = os.path.join(root, "crates", "sums", "wrong", "lib.edits"), (refused.check_copy, refused.twin_verdict)
+        write_text(os.path.join(root, "crates", "sums", "specs", "Sums.antt"), "one = 1\n")
+        twin = "# {}\nfunction: f\ntwin: g\nclause: ensures\nold: {{\nnew: {{ \n"
+        definition = "file: specs/Sums.antt\nold: 1\nnew: 2\n"
+        alone = twin.format("alone")
+        write_text(edits, read_text(edits) + alone + twin.format("both") + definition + twin.format("bad") + definition)
+        tried = []
+        refused.check_copy = lambda crate, texts, kept, only: tried.append((sorted(texts), only)) or "only=2 proved=1"
+        refused.twin_verdict = lambda wrong, *_: (wrong.name != "bad", "judged")
+        try:
+            lines, counts = run_refused(root, "sums")
+        finally:
+            refused.check_copy, refused.twin_verdict = real
+    words = ["--only", "sums::f", "--only", "sums::g"]
+    assert tried == [(["specs/Sums.antt", "src/lib.rt"], words)] * 2, tried
+    assert counts == (4, 2) and [line for line in lines if "bad" in line or "alone" in line] == [
+        "sums, alone: a twin changes a body and its definition, and this one changes no file of specs/: FAILED: it must be refused",
+        "sums, bad: judged: FAILED: it must be refused",
+    ], lines
+
+
 def the_place_of_a_body_decides():
     """Bodies of one name in two files are two, and one of them is tried where its key is new; two in one file are no bodies."""
     with stub_crates(sums="one two") as (root, left):
@@ -300,6 +401,17 @@ def verdicts_of_bodies_that_are_no_more_go():
             counts == (3, 0) and sum("1 of its lines are of wrong bodies that are no more" in line for line in lines) == 2
         ), lines
         assert "#two" not in read_text(path) and not os.path.exists(path.replace("sums", "more")), read_text(path)
+
+
+def new_verdicts_stay_where_others_go():
+    """Of a crate with a body that is no more and a new one, the file has the new verdict after a run."""
+    with stub_crates(sums="one two") as (root, left):
+        run_refused(root, "sums")
+        edits, path = (os.path.join(root, "crates", "sums", "wrong", name) for name in ("lib.edits", "VERDICTS"))
+        write_text(edits, read_text(edits).replace("# two", "# three"))
+        left["sums"] = [["three"]]
+        assert run_refused(root, "sums", share=0)[1] == (3, 0)
+        assert "#three" in read_text(path) and "#two" not in read_text(path), read_text(path)
 
 
 PROVED, FAILED, CALLEE = promises.Verdict.PROVED, promises.Verdict.FAILED, promises.Verdict.CALLEE
@@ -473,6 +585,39 @@ def a_row_has_a_key_of_all_that_decides_it():
         assert {place for place in before if before[place] != after[place]} == moved, path
 
 
+def growth_keys(**more):
+    """The keys of the growths of the tests and of the program, in a repository with these files."""
+    files = {"crates.txt": "utc_times:\nstamp_times: utc_times\ntimes_bench: utc_times stamp_times\nuses: utc_times\n"}
+    for path in ("utc_times/src", "stamp_times/src", "stamp_times/tests", "times_bench/src", "uses/src"):
+        files[f"crates/{path}/lib.rt"] = ""
+    found = refused_memory.keys_of(Files(files | more), 2)
+    return found["growth 2 of the tests"], found["no growth of times_bench"]
+
+
+def a_growth_has_a_key_of_what_runs():
+    """The sources of its crate and of those below, and the tests that run."""
+    before = growth_keys()
+    for path, changed in (
+        ("utc_times/src", (True, True)),
+        ("stamp_times/src", (True, True)),
+        ("stamp_times/tests", (True, False)),
+        ("times_bench/src", (False, True)),
+        ("uses/src", (False, False)),
+    ):
+        after = growth_keys(**{f"crates/{path}/lib.rt": "changed"})
+        assert tuple(one != other for one, other in zip(before, after)) == changed, path
+
+
+def a_growth_that_has_its_verdict_counts_in_its_half():
+    """So a run whose sample has no growth of the tests has a count of both halves."""
+    keys = {"growth 1 of the tests": "1" * 24, "growth 1 of times_bench": "2" * 24, "no growth of times_bench": "3" * 24}
+    found = verdicts.Verdicts("refused_memory", "a kit", "VERDICTS", keys, verdicts.Kept())
+    found.kept.keys, found.new, found.sampled = dict(keys), set(), {"no growth of times_bench"}
+    tests, program = Tally(), Tally()
+    refused_memory.count_kept(found, tests, program)
+    assert (tests.passed, program.passed) == (1, 1), (tests.passed, program.passed)
+
+
 def rows_that_have_verdicts_are_not_tried():
     """They have passed; one of the sample that fails has all others tried, and one that failed is tried again."""
     real, variables = promises.check, {name: os.environ.pop(name) for name in (SHARED_FOLDER,) if name in os.environ}
@@ -497,3 +642,119 @@ def rows_that_have_verdicts_are_not_tried():
     finally:
         promises.check, promises.tasks, promises.REPOSITORY = real, tasks, REPOSITORY
         os.environ.update(variables)
+
+
+# A crate of callers: functions with an attribute and without, one of a file that names another library, and one of a file with sets of
+# its own.
+LINE = "#![tactic(auto, using(low::specs::Callers::callers))]\n"
+OF_CALLERS = {
+    "lib.rt": f"""{LINE}
+/// One.
+pub fn one() {{
+}}
+
+/// Two.
+#[tactic(auto, using(
+    low::specs::Days::days,
+    low::specs::Weeks::weeks,
+))]
+#[inline]
+pub fn two() {{
+}}
+
+impl Day {{
+    #[tactic(auto, unfolding(low::specs::Days::first))]
+    pub fn three(self) {{
+    }}
+}}
+""",
+    "days.rt": f"""{LINE.replace("low", "high")}
+pub fn four() {{
+}}
+""",
+    "values.rt": """#![tactic(auto, unfolding(low::specs::Days::first))]
+
+pub fn five() {
+}
+
+#[tactic(auto)]
+pub fn six() {
+}
+""",
+}
+
+
+def callers_of(texts):
+    """The functions of a crate of callers with these files."""
+    with tempfile.TemporaryDirectory() as root:
+        for name, text in texts.items():
+            write_text(os.path.join(root, "crates", "mine", "src", name), text)
+        return root_line.callers(root, "mine")
+
+
+def functions_without_an_attribute_are_counted():
+    """Those under the line of a library, and no others; the texts of the others are without their attributes, and else as they were."""
+    found = callers_of(OF_CALLERS)
+    assert sorted(found.plain) == ["mine::days::four", "mine::one"], found.plain
+    assert found.own == ["mine::two", "mine::Day::three"], found.own
+    assert list(found.texts) == ["src/lib.rt"], list(found.texts)
+    kept_lines = [line for line in OF_CALLERS["lib.rt"].split("\n") if not re.match(r" *(#\[tactic|low::|\)\)\])", line)]
+    assert found.texts["src/lib.rt"] == "\n".join(kept_lines), found.texts["src/lib.rt"]
+
+
+def an_attribute_taken_out_is_judged_by_its_function():
+    """A function is proved, or open by itself; one that waits for another, or of which nothing is said, is neither."""
+    printed = "note: src/lib.rt:9:1: it is not proved that `returns` (`returns`)\nfn mine::two: no proof: `search` did not prove `returns`\n"
+    printed += "fn mine::Day::three: proved\nfn mine::four: not proved: it calls mine::two\nonly=3 proved=1\n"
+    found = root_line.outcomes("mine", printed, ["mine::two", "mine::Day::three", "mine::four", "mine::five"])
+    assert found == {"mine::two": False, "mine::Day::three": True, "mine::four": None, "mine::five": None}, found
+
+
+def what_the_line_at_the_root_proves_is_counted():
+    """A function that is proved without its attribute counts, one that stays open does not and is kept, and one of which nothing is said
+    fails. What is kept is not tried."""
+    results = {"mine::two": False, "mine::Day::three": True, "mine::four": None}
+    it = root_line.Callers([], [*results, "mine::kept"], {})
+    keys, seen, real = dict.fromkeys(it.own, "1" * 24), [], (root_line.try_crate, root_line.REPOSITORY)
+    root_line.try_crate = lambda crate, _, wanted: seen.append((crate, wanted)) or (
+        {path: results.get(path) for path in wanted},
+        "",
+    )
+    tally, found = Tally(), verdicts.Verdicts("root_line", "a kit", "VERDICTS", keys, verdicts.Kept())
+    found.kept.keys, found.new = {"mine::kept": keys["mine::kept"]}, set(results)
+    shared = {name: os.environ.pop(name) for name in (SHARED_FOLDER,) if name in os.environ}
+    try:
+        with tempfile.TemporaryDirectory() as root, contextlib.redirect_stdout(io.StringIO()) as said:
+            root_line.REPOSITORY = root
+            root_line.try_all(tally, {"mine": it, "other": root_line.Callers(["other::one"], [], {})}, found)
+            lines = read_text(os.path.join(root, "VERDICTS")).splitlines()[2:]
+    finally:
+        root_line.try_crate, root_line.REPOSITORY = real
+        os.environ.update(shared)
+    assert seen == [("mine", list(results))], seen
+    assert (tally.passed, tally.failed) == (1, 1), (tally.passed, tally.failed)
+    assert "mine::Day::three: the line at the root proves it: take its attribute out\n" in said.getvalue(), said.getvalue()
+    assert [line.split(" ", 2)[2] for line in lines] == ["mine::kept", "mine::two"], lines
+
+
+def root_line_keys(**more):
+    """The keys of the functions of a crate of callers, in a repository with these files."""
+    files = {"crates.txt": "low:\nmine: low\nother: low\n"}
+    files |= {f"crates/{path}": "" for path in ("low/src/lib.rt", "low/specs/Lib.antt", "mine/src/lib.rt", "other/src/lib.rt")}
+    every = {"mine": root_line.Callers([], ["mine::two", "mine::three"], {}), "other": root_line.Callers(["other::one"], [], {})}
+    return root_line.keys_of(Files(files | more), "a kit", every)
+
+
+def a_function_with_an_attribute_has_a_key_of_all_that_decides_it():
+    """The sources and definitions of its crate and of those below, and no proofs of them."""
+    before = root_line_keys()
+    assert len(before) == len(set(before.values())) == 2, before
+    for path, is_changed in (
+        ("low/src/lib.rt", True),
+        ("low/specs/Lib.antt", True),
+        ("mine/src/lib.rt", True),
+        ("low/proofs/Lib.antt", False),
+        ("other/src/lib.rt", False),
+    ):
+        after = root_line_keys(**{f"crates/{path}": "changed"})
+        assert [before[it] != after[it] for it in before] == [is_changed] * 2, path

@@ -12,6 +12,7 @@ import tempfile
 from shared.definitions import declarations, imports, module_of, words_of
 from shared.gate import GATE, Tally, read_text, write_text
 from shared.items import contracts, exports_of, first_sentence, implementations, public_items
+from shared.named import Named, named_as_functions, tried_by_twins
 from shared.seen import modules_that_see
 from shared.test_crates import folders_of_no_crate, is_no_library, is_top, lay_inside, lay_out, tests_of
 from shared.wrong import Wrong, is_in_function, put_body, read, right_bodies, unread_files, wrong_bodies
@@ -569,3 +570,46 @@ def tests_that_are_not_proved_are_named():
         assert counted == (1, 2), said
     assert "one: second, its proof: FAILED: it is not proved\nfn both::one_tests::second: not proved" in said, said
     assert "one: third, its proof: FAILED" in said and "one: first, its proof\n" in said, said
+
+
+# Definitions beside a source: two with a function's name, one of a type, one of a lemma, and one that no function has.
+SUMS = """use Rattle.std.specs.Prelude.{ℕ}
+
+-- ---- sums
+
+-- the sum of two numbers,
+-- and their difference
+unfoldable pub sum_of : ℕ → ℕ → ℕ
+sum_of a b =
+    let c = a + b in
+    c + 0
+
+abbrev pub difference_of : ℕ → ℕ → ℕ
+difference_of a b = a - b
+
+-- twice a number
+abbrev pub twice : ℕ → ℕ
+twice a = sum_of a a
+
+-- a sum is itself
+pub same_sum : 1 ≡ 1
+same_sum = refl
+"""
+
+SUMS_SOURCE = "pub fn sum_of(a: u8) {\n}\n\nimpl Sums {\n    const fn difference_of(a: u8) {\n    }\n}\n\nfn same_sum() {\n}\n"
+
+
+def definitions_with_the_name_of_a_function_are_found():
+    """With the comment above them, also where another definition is between; a twin tries what it changes, and its function's."""
+    with tempfile.TemporaryDirectory(prefix="gate-tests-") as folder:
+        write_text(os.path.join(folder, "src", "lib.rt"), SUMS_SOURCE)
+        write_text(os.path.join(folder, "specs", "Sums.antt"), SUMS)
+        words = "the sum of two numbers, and their difference"
+        found = [Named("specs/Sums.antt", "sum_of", words), Named("specs/Sums.antt", "difference_of", words)]
+        assert named_as_functions(folder) == (3, found), named_as_functions(folder)
+        edits = os.path.join(folder, "wrong", "lib.edits")
+        body = "file: src/lib.rt\n\n# one\nfunction: Sums::difference_of\nclause: ensures\n{}old: u8\nnew: u16\n"
+        write_text(edits, body.format(""))
+        assert not tried_by_twins(folder)
+        write_text(edits, body.format("twin: laws::sums\n") + "file: specs/Sums.antt\nold:     c + 0\nnew:     c + 1\n")
+        assert tried_by_twins(folder) == {"sum_of", "difference_of"}, tried_by_twins(folder)

@@ -6,13 +6,14 @@ import io
 import os
 import sys
 import tempfile
+import time
 from unittest import mock
 
 import fault_arms
 from case_texts import python_parts, rust_parts, script_parts
 from fault_keys import Keys
 from shared import verdicts
-from shared.gate import GATE, SHARED_FOLDER, Tally, read_text, write_text
+from shared.gate import BEGUN, GATE, SHARED_FOLDER, Tally, read_text, write_text
 from shared.toolchain import load
 
 planted = load("planted", os.path.join(GATE, "planted"))
@@ -398,6 +399,17 @@ def a_sample_that_is_not_seen_has_its_list_tried():
         assert status == 1 and "so the 2 others of its list are tried" in printed, printed
         assert count_of(printed) == "3 passed, 3 failed, 0 skipped", printed
         assert not os.path.exists(os.path.join(root, verdicts.path_of("planted"), "one")), printed
+
+
+def faults_that_come_too_late_are_skipped():
+    """Where ./test began too long ago; else, and in a run of its own, all are tried."""
+    with three_faults() as root:
+        write_text(os.path.join(root, "faults", "one.faults"), list_of_faults(new="worse"))
+        for begun, counts in ((0, "0 passed, 0 failed, 6 skipped"), (time.time(), "6 passed, 0 failed, 0 skipped")):
+            with mock.patch.dict(os.environ, {BEGUN: str(begun)}):
+                status, printed = plant_in(root)
+            assert status == 0 and count_of(printed) == counts, printed
+            assert begun or "3 faults of one: skipped: ./test tries new ones for 130 minutes" in printed, printed
 
 
 def a_verdict_that_was_changed_by_hand_is_told():

@@ -1,4 +1,4 @@
-"""A program in C that makes random calls of the header, each to the archive and to the portable library, and compares all they write."""
+"""A program in C that makes random calls of the header, each to the archive and to muxandu.c, and compares all they write."""
 
 from shared.interface import type_of
 
@@ -13,7 +13,7 @@ NUMBERS = {
     "usize": "size_t",
 }
 
-# The name that a call of the portable library has there.
+# The name that a call of muxandu.c has there.
 OTHER = "other_"
 
 HEAD = """\
@@ -29,6 +29,7 @@ HEAD = """\
 
 #define MOST 24
 #define BYTES 1024
+#define LONG (1 << 20)
 
 static uint64_t state;
 
@@ -58,7 +59,19 @@ static int64_t some(int64_t low, int64_t high) {
     }
 }
 
-static char texts[BYTES];
+/* Texts, and what follows them in a long one. */
+static char texts[LONG];
+
+/* How many bytes a text has, most of them a few, and one in a thousand 1 MiB, of which half have nearly all in their fraction. */
+static size_t long_at_times(size_t count) {
+    if (below(1000) != 0) return count;
+    if (count >= 20 && below(2)) {
+        memset(texts + 19, (int)('0' + below(10)), LONG - 20);
+        texts[19] = '.';
+        texts[LONG - 1] = 'Z';
+    }
+    return LONG;
+}
 
 /* Bytes like those of texts, or texts, of which one byte is another at times. */
 static size_t some_texts(MuxanduSpan *spans, size_t count) {
@@ -221,7 +234,10 @@ class Beside:
             elif role == "text":
                 lines += ["static MuxanduSpan made[MOST];", f"size_t {own}_count;"]
                 has_spans = any(it["type"] == "MuxanduSpan" for it in call["parameters"])
-                lines += [f"size_t many = {'below(MOST + 1)' if has_spans else '1'};", f"{own}_count = some_texts(made, many);"]
+                lines += [
+                    f"size_t many = {'below(MOST + 1)' if has_spans else '1'};",
+                    f"{own}_count = long_at_times(some_texts(made, many));",
+                ]
                 given.append("texts")
                 others.append("texts")
             elif role == "items in":

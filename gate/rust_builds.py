@@ -17,7 +17,7 @@ from shared.debian_crates import SOURCE, lacking
 from shared.gate import REPOSITORY, Tally, run, write_text
 
 # The crates that features of the folder `time` need, and its tests.
-CRATES = ("quickcheck", "rand", "serde", "serde_derive", "serde_json")
+CRATES = ("chrono", "quickcheck", "rand", "serde", "serde_derive", "serde_json")
 
 # What cargo says of a package that is published nowhere.
 NO_ADDRESS = "manifest has no documentation, homepage or repository"
@@ -82,7 +82,7 @@ CALLED = '9999-12-31 22:29:59.0 +00:00:00\n["9999-12-31"]\n'
 
 # The features of the folder `time`, each of which builds alone.
 FEATURES = (
-    "alloc", "formatting", "large-dates", "local-offset", "macros", "parsing", "quickcheck", "rand", "serde",
+    "alloc", "chrono", "formatting", "large-dates", "local-offset", "macros", "parsing", "quickcheck", "rand", "serde",
     "serde-human-readable", "serde-well-known", "std",
 )  # fmt: skip
 

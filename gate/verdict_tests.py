@@ -279,6 +279,10 @@ OF_INNER = (
     .replace("let next = day.next();", "let deep = 1;")
 )
 
+# A twin: its second edit is of a definition, and the function `mapped` must refuse it.
+TWIN = BODY.replace("function: after", "function: after\ntwin: mapped")
+TWIN += "file: specs/Words.antt\nold:   = Follow × Shown\nnew:   = Follow\n"
+
 LOW, KIND, STEP = "crates/low/src/days.rt", "crates/low/src/kinds.rt", "crates/low/src/steps.rt"
 SPECS, WORDS, TOP = "crates/low/specs/Days.antt", "crates/high/specs/Words.antt", "crates/high/src/lib.rt"
 ANSWERS, INVARIANTS = (f"crates/high/proofs/+after/{name}.antt" for name in ("Answers", "Invariants"))
@@ -297,10 +301,10 @@ class Files(dict):
         return self[path]
 
 
-def key(files=FILES, body=BODY, kit="a kit"):
+def key(files=FILES, body=BODY, kit="a kit", twin_judge="its code"):
     """The key of a body of the crate above, in a repository of these files."""
     (wrong,) = read_many("crates/high/wrong/lib.edits", body.split("\n"))
-    return Keys(Files(files), kit).key("high", wrong)
+    return Keys(Files(files), kit, twin_judge).key("high", wrong)
 
 
 def with_change(path, old, new):
@@ -390,6 +394,14 @@ def a_body_has_a_key_of_its_own():
         assert key(body=BODY.replace(old, new)) != key(), f"{old} for {new}"
     assert key(kit="another kit") != key()
     assert key(body=BODY.replace("it stays", "it does not go on")) == key() == key(dict(reversed(FILES.items())))
+
+
+def a_twin_has_the_function_that_refuses_it_in_its_key():
+    """With its answers, and the code that judges twins, which no other body has."""
+    assert key(body=TWIN.replace("twin: mapped", "twin: other")) != key(body=TWIN) != key(body=TWIN.replace("twin: mapped\n", ""))
+    answers = {"crates/high/proofs/mapped/Answers.antt": "result = omega arith\n"}
+    assert key({**FILES, **answers}, TWIN) != key(body=TWIN) and key({**FILES, **answers}) == key()
+    assert key(body=TWIN, twin_judge="another") != key(body=TWIN) and key(twin_judge="another") == key()
 
 
 def what_judges_is_in_the_key():

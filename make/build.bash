@@ -115,3 +115,52 @@ run() {
     build_what_changed
     exec "$built" "$@"
 }
+
+# The most bytes that `rt try` reads.
+most_read=67108864
+
+# Whether the disk of a folder has no room for what a run may write.
+is_full() {
+    ! head -c 4000000 /dev/zero 2> /dev/null > "$1/filler" || ! rm "$1/filler"
+}
+
+# Says why a run gave no answer: what it said itself, or that the disk is full, before what else can be the reason.
+say_why() {
+    if is_full "$room"; then
+        echo "$command: --unproved gave no answer: no room is left on the disk of $room" >&2
+        return
+    fi
+    echo "$command: --unproved gave no answer:" >&2
+    grep -E '^(interpreter|checked|error|rt): ' "$room/said" >&2 || cat "$room/said" >&2
+    echo "$command: it writes at most a megabyte and runs for a minute at most; ./$command has no such limit" >&2
+}
+
+# Answers with these words by `rt try`, which runs the sources as they are, and keeps nothing.
+run_unproved() {
+    local status=0
+    room="$(mktemp -d)"
+    temporary+=("$room")
+    if ! head -c $((most_read + 1)) > "$room/lines"; then
+        say_why
+        exit 2
+    fi
+    if [ "$(stat -c %s "$room/lines")" -gt "$most_read" ]; then
+        echo "$command: --unproved takes at most $most_read bytes of lines; ./$command takes any number" >&2
+        exit 2
+    fi
+    (cd "$top/crates/$name" && rt try ${1:+--} "$@" < "$room/lines" > "$room/answers" 2> "$room/said") || status=$?
+    if ! grep -q '^run=ended ' "$room/said"; then
+        say_why
+        exit 2
+    fi
+    cat "$room/answers"
+    grep -vE '^(allocations: [0-9]+|interpreter: .*|checked: .*|run=.*)$' "$room/said" >&2 || true
+    echo "$command: these answers are not proved; ./$command proves the program before it runs" >&2
+    exit "$status"
+}
+
+# Puts the libraries of a file of proofs into their places.
+take_proofs() {
+    [ -n "$1" ] || refuse_words "a file is missing after --proofs"
+    "$top/make/proofs" take "$1" || exit 1
+}

@@ -12,15 +12,25 @@ NUMBERS = {
     "usize": "size_t",
 }
 
-# The number of a status, as C calls it, and the enum of those of this version.
-STATUS, STATUSES = "MuxanduStatus", "MuxanduStatusCode"
+# The number of a status, as C calls it.
+STATUS = "MuxanduStatus"
+
+# The most bytes of stack that a call takes: packages/c/tests/stacks.c measures them.
+STACK = """\
+/* The most bytes of stack that a call takes. */
+#define MUXANDU_STACK 24576
+
+/* The most bytes of stack that a call takes, but for those with a description or a time zone. */
+#define MUXANDU_STACK_WITHOUT_DESCRIPTION 4096
+"""
 
 # What stands before the name of a parameter of each role.
 POINTERS = {"out": "{kind} {star}", "items in": "const {kind} {star}", "items out": "{kind} {star}"}
 POINTERS |= {"text": "const char {star}", "room": "char {star}", "in": "{kind} ", "count": "{kind} "}
 
 # What each language that reads the header calls: a pointer through which alone its items are reached, a function that each file
-# has by itself, a number as another type, an enum of 32 bits.
+# has by itself, a number as another type, an enum of 32 bits; a result that a caller must read, pointers that are never NULL, a
+# function that throws nothing, and one that a DLL exports. A compiler that does not have one of the last four reads nothing there.
 WORDS = """\
 #if !defined(__cplusplus) && defined(__STDC_VERSION__) && __STDC_VERSION__ >= 199901L
 #define MUXANDU_RESTRICT restrict
@@ -44,10 +54,42 @@ WORDS = """\
 #else
 #define MUXANDU_ENUM(name) enum name
 #endif
+#if (defined(__cplusplus) && __cplusplus >= 201703L) || (defined(__STDC_VERSION__) && __STDC_VERSION__ >= 202311L)
+#define MUXANDU_NODISCARD [[nodiscard]]
+#elif defined(__clang__)
+#define MUXANDU_NODISCARD __attribute__((warn_unused_result))
+#elif defined(__GNUC__) && __GNUC__ >= 10 && !defined(__cplusplus) && !defined(__INTEL_COMPILER) && !defined(__TINYC__)
+#define MUXANDU_NODISCARD __extension__ [[nodiscard]]
+#else
+#define MUXANDU_NODISCARD
+#endif
+#if defined(__GNUC__)
+#define MUXANDU_NONNULL(places) __attribute__((nonnull places))
+#else
+#define MUXANDU_NONNULL(places)
+#endif
+#if defined(__cplusplus) && (__cplusplus >= 201103L || defined(_MSC_VER))
+#define MUXANDU_NOEXCEPT noexcept
+#elif defined(__cplusplus)
+#define MUXANDU_NOEXCEPT throw()
+#else
+#define MUXANDU_NOEXCEPT
+#endif
+#if defined(_WIN32) && defined(MUXANDU_DLL) && defined(MUXANDU_BUILD)
+#define MUXANDU_API __declspec(dllexport)
+#elif defined(_WIN32) && defined(MUXANDU_DLL)
+#define MUXANDU_API __declspec(dllimport)
+#else
+#define MUXANDU_API
+#endif
 """
+
+# The results that a caller must read: each says whether the call has written its values.
+READ = ("MuxanduStatus", "MuxanduBatch", "MuxanduOutcome")
 
 # A text as C has it, of a call that writes one: compiled with the program.
 TERMINATED = """\
+MUXANDU_NODISCARD
 MUXANDU_INLINE {head} {{
     size_t size = 0;
     {status} answer = {name}({given}, {room}_count == 0 ? 0 : {room}_count - 1, &size);
@@ -56,11 +98,20 @@ MUXANDU_INLINE {head} {{
 }}
 """
 
+REASON = "MuxanduReason"
+REASON_STRING = f"""\
+/* The text of a reason, for a message: likewise. */
+MUXANDU_INLINE const char *muxandu_reason_string({REASON} reason) MUXANDU_NOEXCEPT {{
+    switch (reason) {{
+    case 0:
+        return "No reason.";
+"""
+
 STRING = f"""\
 /* The text of a status, as muxandu_status_text writes it, for a message. It stays, and ends with a
  * byte 0. Your compiler compiles this call and those that end with _z, and no proof covers them;
  * they answer by the proved calls. */
-MUXANDU_INLINE const char *muxandu_status_string({STATUS} status) {{
+MUXANDU_INLINE const char *muxandu_status_string({STATUS} status) MUXANDU_NOEXCEPT {{
     switch (status) {{
 """
 
@@ -100,8 +151,19 @@ def declaration(name, call):
     pointers = [one for one in call["parameters"] if one["role"] not in ("in", "count")]
     star = "*" if len(pointers) < 2 else "*MUXANDU_RESTRICT "
     words = [parameter(one, star).replace(" ", HOLDS) for one in call["parameters"]]
-    line = f"{c_type(call['result'] or 'void')} {name}({', '.join(words) or 'void'});"
+    line = f"{c_type(call['result'] or 'void')} {name}({', '.join(words) or 'void'}){HOLDS}MUXANDU_NOEXCEPT;"
     return [made.replace(HOLDS, " ") for made in wrapped(line, "", " " * (line.index("(") + 1))]
+
+
+def attributes(call):
+    """The line before the declaration of a call in the header: what its caller must read, and which pointers are never NULL."""
+    places = [str(place) for place, one in enumerate(call["parameters"], 1) if one["role"] == "out"]
+    words = ["MUXANDU_API"]
+    if call["result"] in READ:
+        words.insert(0, "MUXANDU_NODISCARD")
+    if places:
+        words.append(f"MUXANDU_NONNULL(({', '.join(places)}))")
+    return " ".join(words)
 
 
 def terminated_declaration(name, call):
@@ -110,7 +172,7 @@ def terminated_declaration(name, call):
     if room is None:
         return []
     words = [parameter(one) for one in call["parameters"][: room + 2]]
-    return [f"{c_type(call['result'])} {name}_z({', '.join(words)});"]
+    return [f"{c_type(call['result'])} {name}_z({', '.join(words)}) MUXANDU_NOEXCEPT;"]
 
 
 def room_of(call):
@@ -141,16 +203,14 @@ class Header:
     def enums(self):
         made = []
         for numbers, number_type in self.interface["numbers"].items():
-            name = STATUSES if numbers == STATUS else numbers
+            name = f"{numbers}Code"
             made += [*comment(self.interface["enums"][number_type["of"]]["doc"]), f"typedef MUXANDU_ENUM({name}) {{"]
             if numbers == STATUS:
                 made += [*comment(self.interface["other statuses"]["OK"]["doc"], "    "), "    MUXANDU_OK = 0,"]
             for variant in variants_of(self.interface, number_type["of"]):
                 made += [*comment(variant["doc"], "    "), f"    MUXANDU_{variant['constant']} = {variant['number']},"]
             made[-1] = made[-1].rstrip(",")
-            made += [f"}} {name};", ""]
-            if numbers == STATUS:
-                made += comment(number_type["doc"]) + [f"typedef uint32_t {STATUS};", ""]
+            made += [f"}} {name};", "", *comment(number_type["doc"]), f"typedef uint32_t {numbers};", ""]
         return made
 
     def constants(self):
@@ -160,7 +220,7 @@ class Header:
         for group in CONSTANTS:
             for name, constant in self.interface[group].items():
                 made += [*comment(constant["doc"]), f"#define MUXANDU_{name} {number(constant)}", ""]
-        return made
+        return [*made, *STACK.split("\n")]
 
     def structs(self):
         made = []
@@ -172,16 +232,18 @@ class Header:
         return made
 
     def layout(self):
-        """Tests of the layout that each standard of C and C++ has."""
+        """Tests of the layout that each standard of C and C++ has, where pointers have 64 bits."""
         made = [
             "#if defined(__cplusplus) && __cplusplus >= 201103L",
-            "#define MUXANDU_LAYOUT(name, holds) static_assert(holds, #name)",
+            "#define MUXANDU_LAYOUT(name, holds) static_assert(sizeof(void *) != 8 || (holds), #name)",
         ]
         made += ["#elif defined(__STDC_VERSION__) && __STDC_VERSION__ >= 201112L"]
-        made += ["#define MUXANDU_LAYOUT(name, holds) _Static_assert(holds, #name)"]
-        made += ["#else", "#define MUXANDU_LAYOUT(name, holds) typedef char muxandu_layout_##name[(holds) ? 1 : -1]", "#endif"]
-        made.append("MUXANDU_LAYOUT(Bits64, sizeof(size_t) == 8 && sizeof(void *) == 8);")
-        made += [f"MUXANDU_LAYOUT({name}, sizeof({name}) == 4);" for name in self.interface["numbers"]]
+        made += ["#define MUXANDU_LAYOUT(name, holds) _Static_assert(sizeof(void *) != 8 || (holds), #name)"]
+        made += [
+            "#else",
+            "#define MUXANDU_LAYOUT(name, holds) typedef char muxandu_layout_##name[sizeof(void *) != 8 || (holds) ? 1 : -1]",
+        ]
+        made.append("#endif")
         for name, struct in self.interface["structs"].items():
             made.append(f"MUXANDU_LAYOUT({name}, sizeof({name}) == {struct['size']});")
             for field in struct["fields"]:
@@ -192,17 +254,23 @@ class Header:
     def calls(self):
         made = []
         for name, call in self.interface["calls"].items():
-            made += [*comment(call["doc"]), *declaration(name, call), ""]
+            made += [*comment(call["doc"]), attributes(call), *declaration(name, call), ""]
         return made
+
+    def cases(self, numbers, unknown):
+        """The rest of a call that gives the text of a number."""
+        made = []
+        for variant in variants_of(self.interface, self.interface["numbers"][numbers]["of"]):
+            made += [f"    case MUXANDU_{variant['constant']}:", f"        return {quoted(variant['doc'])};"]
+        return [*made, "    default:", f"        return {quoted(unknown)};", "    }", "}", ""]
 
     def strings(self):
         """The calls that give texts as C has them."""
         made = STRING.rstrip("\n").split("\n")
         others = self.interface["other statuses"]
         made += ["    case MUXANDU_OK:", f"        return {quoted(others['OK']['doc'])};"]
-        for variant in variants_of(self.interface, self.interface["numbers"][STATUS]["of"]):
-            made += [f"    case MUXANDU_{variant['constant']}:", f"        return {quoted(variant['doc'])};"]
-        made += ["    default:", f"        return {quoted(others['UNKNOWN']['doc'])};", "    }", "}", ""]
+        made += [*self.cases(STATUS, others["UNKNOWN"]["doc"]), *REASON_STRING.rstrip("\n").split("\n")]
+        made += self.cases(REASON, "A reason that this version does not know.")
         for name, call in self.interface["calls"].items():
             made += terminated_call(name, call)
         return made

@@ -1,4 +1,4 @@
-"""packages/c/tests/muxandu_sys.rs, of the description of the interface."""
+"""The declarations for Rust, which tests have as their module muxandu_sys, of the description of the interface."""
 
 from shared.interface import CONSTANTS, HEAD, duties, type_of, variants_of, wrapped
 

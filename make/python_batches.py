@@ -152,5 +152,6 @@ def all_over_moments():
 
 
 def reads_moments(call):
-    """Whether a call reads moments first, and writes items."""
-    return [one["type"] for one in items_of(call, "items in")][:1] == ["MuxanduMoment"] and items_of(call, "items out") != []
+    """Whether a call reads moments first, and writes items and no number of gaps, which pandas.py alone asks for."""
+    reads = [one["type"] for one in items_of(call, "items in")][:1] == ["MuxanduMoment"]
+    return reads and items_of(call, "items out") != [] and items_of(call, "out") == []

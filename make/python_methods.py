@@ -49,6 +49,7 @@ METHODS = {
         "truncated_to": "date_time_truncate",
         "day_number": "date_time_day",
     },
+    "Duration": {"_of_words": "duration_from_text"},
 }
 
 # The calls of operators and texts, which extension.c makes as functions, and those of constructors, comparisons and hashes, which
@@ -67,10 +68,17 @@ FOR_DATABASES = (
     "timestamp_to_microseconds_2000",
     "timestamp_truncate_digits",
     "date_time_check_rfc3339",
+    *("duration_fault", "duration_text"),
 )
 
 # Calls with one description, which the package makes by the items of it and by the calls for many.
-OF_ONE_DESCRIPTION = ("format", "format_items", "parse")
+OF_ONE_DESCRIPTION = ("format", "format_items", "parse", "parse_front")
+
+# Calls with a time zone, which zones.h makes by hand: their zone and its transitions are one object.
+OF_ZONES = (
+    *("zone_from_tzif", "zone_from_text", "zone_offset_at", "zone_offsets_at", "zone_instants_of"),
+    *("zone_next_transition", "zone_previous_transition", "timestamp_to_zone", "date_time_at_zone"),
+)
 
 # The parameters whose value a refusal is of, by the name of the refusal. The first that a call has is the one.
 REFUSED = {
@@ -141,6 +149,10 @@ DOCS = {
         "and if the offset has seconds or is of 24 hours or more.",
         "to_rfc3339_digits": "The text of RFC 3339 with 0 to 9 digits of the fraction; it cuts further digits off. "
         "RefusedNoText as to_rfc3339.",
+        "to_iso": "The text of ISO 8601, which every date-time has. A year below 0 or above 9999 has a sign and six digits, as "
+        "-004712-11-24T12:00:00Z, and an offset with seconds has these, as +01:19:32.",
+        "from_iso": "The date-time and its offset of a text of ISO 8601 as to_iso writes it, a str or bytes. RefusedSyntax if the text "
+        "has another form, else the class of the first part that is out of range, such as RefusedMonth.",
         "day_number": "The days from 1970-01-01 to the date at its offset.",
     },
     "UtcDateTime": {
@@ -162,7 +174,14 @@ DOCS["PlainDateTime"] = {
 
 def complete(calls: dict) -> None:
     """Adds the calls of an interface that no table has: each as a method of the class that it reads first, or else makes."""
-    tables = (OPERATORS, BY_THEMSELVES, FOR_DATABASES, OF_ONE_DESCRIPTION, *(rows.values() for rows in METHODS.values()))
+    tables = (
+        OPERATORS,
+        BY_THEMSELVES,
+        FOR_DATABASES,
+        OF_ONE_DESCRIPTION,
+        OF_ZONES,
+        *(rows.values() for rows in METHODS.values()),
+    )
     known = {name for names in tables for name in names}
     for name, call in calls.items():
         places = {one["role"]: one["type"] for one in reversed(call["parameters"])}

@@ -5,6 +5,8 @@ import hashlib
 import io
 import json
 import os
+import re
+import shlex
 import shutil
 import stat
 import subprocess
@@ -19,7 +21,6 @@ from shared.python_package import PYTHON
 ROOT = Path(REPOSITORY)
 MAINTAINERS = "Muxandu maintainers <maintainers@users.noreply.muxandu.example>"
 LICENCE = "MIT OR Apache-2.0"
-LIBRARIES = "lib/x86_64-linux-gnu"
 
 # The other machine, by the word of ./build-library and the folder with what it laid out.
 OF_ARM = "aarch64"
@@ -71,6 +72,59 @@ class Release:
 
 class Failed(Exception):
     """A release cannot be made, for this reason."""
+
+
+@dataclass
+class Machine:
+    """A processor that the release is for: its names, its compiler, the library that it has and in which form, laid out in a folder."""
+
+    name: str
+    debian: str
+    compiler: str
+    archive: Path
+    form: str
+    dist: Path
+
+    @property
+    def words(self):
+        """What ./build-library is told of it."""
+        return ("--archive", self.archive, *(("--target", self.name) if self.name == OF_ARM else ()))
+
+    @property
+    def libraries(self):
+        """Where Debian has its libraries."""
+        return f"lib/{self.name}-linux-gnu"
+
+    def variables(self):
+        """How a package is compiled for it."""
+        return {"MUXANDU_ARCHIVE": str(self.archive), "CC": self.compiler}
+
+
+# The forms of the library in a file of the release.
+PROVED_ARCHIVE, ONE_FILE, COMPILED, MODULE, ERASED, PROGRAM, SOURCES = (
+    "the proved archive",
+    "muxandu.c",
+    "muxandu.c, compiled",
+    "the module of WebAssembly, cut by wasm-opt and wasm-metadce",
+    "the proved sources as plain Rust",
+    "the proved program",
+    "the sources",
+)
+
+
+def machines(release):
+    """The machines of the release: this one, and 64-bit ARM where its library is built or its compiler is there."""
+    found = [Machine("x86_64", "amd64", "cc", release.built / "libmuxandu_c.a", PROVED_ARCHIVE, release.work / "dist")]
+    compiler, built = "aarch64-linux-gnu-gcc", release.built / OF_ARM / "lib" / "libmuxandu.a"
+    if built.is_file():
+        found.append(Machine(OF_ARM, "arm64", compiler, built, PROVED_ARCHIVE, release.work / "arm"))
+    elif shutil.which(compiler):
+        made = release.empty("compiled") / "libmuxandu.a"
+        release.run(ROOT / "make" / "unproved_archive", made, CC=compiler)
+        found.append(Machine(OF_ARM, "arm64", compiler, made, COMPILED, release.work / "arm"))
+    for machine in found:
+        release.run(ROOT / "build-library", *machine.words, machine.dist)
+    return found
 
 
 def compress(content):
@@ -135,16 +189,46 @@ def value_of(manifest, key):
     return next(line.split('"')[1] for line in manifest.splitlines() if line.startswith(f"{key} = "))
 
 
-def write_python(release, dist):
-    """The wheel and the archive of sources, in which the library is compiled in."""
+def write_python(release, machine_list):
+    """A wheel for each machine, which has the library inside, and the archive of sources, which has it as one file of C."""
     folder, work = release.folder("python"), release.empty("python")
     sources = plain_copy(ROOT / "packages" / "python", work / "sources")
-    variables = {"MUXANDU_DIST": str(dist), "MUXANDU_EXTENSION": "must", "PYTHONDONTWRITEBYTECODE": "1"}
-    release.run(PYTHON, "setup.py", "-q", "bdist_wheel", "--dist-dir", folder, folder=sources, **variables)
+    release.run(ROOT / "make" / "python_calls", "build", sources)
+    release.run(ROOT / "make" / "one_c_file", sources / "library")
+    variables = {"MUXANDU_EXTENSION": "must", "PYTHONDONTWRITEBYTECODE": "1"}
+    for machine in machine_list:
+        if machine.name == OF_ARM and not shutil.which(machine.compiler):
+            continue
+        release.run(
+            PYTHON,
+            "setup.py",
+            "-q",
+            "bdist_wheel",
+            "--dist-dir",
+            folder,
+            folder=sources,
+            **{**variables, **machine.variables(), **headers_for(release, machine)},
+        )
     release.run(PYTHON, "setup.py", "-q", "sdist", "--formats", "tar", "--dist-dir", work, folder=sources, **variables)
     name = f"muxandu-{release.version}"
     release.run("tar", "--extract", "--file", f"{name}.tar", folder=work)
     write_tar(release, folder / f"{name}.tar.gz", files_below(work / name, name))
+
+
+def headers_for(release, machine):
+    """What Python is told to build for another machine. Of its headers one is not there: pyconfig.h, whose sizes are those of this
+    machine, since both have pointers of 64 bits and `long` as wide. The extension has the stable ABI, in which no struct depends
+    on more."""
+    if machine.name != OF_ARM:
+        return {}
+    words = "import sysconfig; print(sysconfig.get_config_h_filename(), sysconfig.get_path('include'))"
+    config, include = map(Path, release.run(PYTHON, "-c", words).decode().split())
+    place = release.empty("headers") / f"{machine.name}-linux-gnu" / include.name / "pyconfig.h"
+    place.parent.mkdir(parents=True)
+    own = include.parent / "x86_64-linux-gnu" / include.name / "pyconfig.h"
+    shutil.copyfile(own if own.is_file() else config, place)
+    flags = f"{shlex.quote(f'-I{place.parents[2]}')} {shlex.quote(f'-I{place.parent}')}"
+    return {"CFLAGS": flags, "_PYTHON_HOST_PLATFORM": f"linux-{machine.name}"}
 
 
 def plain_copy(source, target):
@@ -166,52 +250,63 @@ def write_javascript(release):
     write_tar(release, release.folder("javascript") / f"muxandu-{release.version}.tgz", files)
 
 
-def write_sqlite(release, dist):
+def write_sqlite(release, machine):
     """The extension, whose name must be that of its entry point."""
-    release.run(ROOT / "packages" / "sqlite" / "build", dist, release.folder("sqlite") / "muxandu.so")
+    folder = release.folder("sqlite" if machine.name != OF_ARM else f"sqlite/{machine.name}")
+    release.run(ROOT / "packages" / "sqlite" / "build", folder / "muxandu.so", **machine.variables())
 
 
-def write_postgres(release, dist):
-    """The extension for PostgreSQL, for the version whose headers are here."""
+def write_postgres(release, machine):
+    """The extension for PostgreSQL, for the version whose headers are here. Those of another machine differ in its instructions alone,
+    which the extension does not name."""
     said = release.run("pg_config", "--version", "--pgxs").decode().split()
     if not os.path.exists(said[-1]):
         return
-    made, version = release.empty("postgres"), said[1].partition(".")[0]
+    made, version = release.empty(f"postgres-{machine.name}"), said[1].partition(".")[0]
     shutil.copytree(ROOT / "packages" / "postgres", made, dirs_exist_ok=True, ignore=shutil.ignore_patterns("*.o", "*.so"))
-    release.run("make", f"DIST={dist}", "COPT=-g0", folder=made)
-    name = f"muxandu-{release.version}-postgresql-{version}-x86_64-linux"
+    words = (f"MUXANDU={ROOT}", f"MUXANDU_ARCHIVE={machine.archive}", f"CC={machine.compiler}", "COPT=-g0")
+    release.run("make", *words, folder=made)
+    name = f"muxandu-{release.version}-postgresql-{version}-{machine.name}-linux"
     files = {f"{name}/lib/muxandu.so": made / "muxandu.so", f"{name}/extension/muxandu.control": made / "muxandu.control"}
     files |= {f"{name}/extension/{path.name}": path for path in made.glob("muxandu--*.sql")}
     files |= {f"{name}/{path.name}": path for path in ROOT.glob("LICENSE-*")}
     write_tar(release, release.folder("postgres") / f"{name}.tar.gz", files)
 
 
-def write_library(release, dist):
-    """The library for C, as ./build-library lays it out, and that for 64-bit ARM where it is built."""
+def write_library(release, machine):
+    """The library for C, as ./build-library lays it out."""
     name = f"muxandu-{release.version}"
-    write_tar(release, release.folder("c") / f"{name}-x86_64-linux.tar.gz", files_below(dist, name))
-    if (release.built / OF_ARM).is_dir():
-        write_tar(release, release.folder("c") / f"{name}-{OF_ARM}-linux.tar.gz", files_below(release.built / OF_ARM, name))
+    write_tar(release, release.folder("c") / f"{name}-{machine.name}-linux.tar.gz", files_below(machine.dist, name))
 
 
-def write_portable(release):
-    """The library in portable C."""
-    name, made = f"muxandu-{release.version}-portable", release.work / "portable"
-    release.run(ROOT / "make" / "portable_c", made)
+def write_c_file(release):
+    """The library as one file of C, with what CMake's add_subdirectory reads."""
+    name, made = f"muxandu-{release.version}-c", release.work / "c"
+    release.run(ROOT / "make" / "one_c_file", made)
+    shutil.copy(ROOT / "packages" / "c" / "CMakeLists.txt", made)
     files = files_below(made, name) | {f"{name}/{path.name}": path for path in ROOT.glob("LICENSE-*")}
     write_tar(release, release.folder("c") / f"{name}.tar.gz", files)
 
 
 def write_programs(release):
-    """The two programs, which need no library of the machine where their objects are there."""
+    """The two programs, which need no library of the machine where their objects are there. glibc is linked: the kit reads the words of a
+    program as glibc gives them to it before main, which musl does not."""
     folder, kit = release.folder("programs"), Path(shutil.which("rattle") or "").resolve().parent.parent
     for name in ("stamps", "times_bench"):
         built = release.built / f"{name}.o"
         if built.is_file():
-            release.run("cc", "-static", "-o", folder / name, built, kit / "c" / "libos_c.a", kit / "c" / "liblibc_c.a")
+            kept = (built, kit / "c" / "libos_c.a", kit / "c" / "liblibc_c.a")
+            release.run("cc", "-O2", "-static", "-o", folder / name, *kept)
         else:
             shutil.copyfile(release.built / name, folder / name)
         (folder / name).chmod(0o755)
+
+
+def write_proofs(release):
+    """The libraries as they are proved, for callers in Rattle, where they were built: make/proofs takes them."""
+    for path in release.built.glob("muxandu-proofs-*.tar.zst"):
+        shutil.copyfile(path, release.folder("proofs") / path.name)
+        (release.folder("proofs") / path.name).chmod(0o644)
 
 
 def write_page(release):
@@ -222,13 +317,13 @@ def write_page(release):
 class Package:
     """A Debian package: its name, its fields, and a folder with its files."""
 
-    def __init__(self, release, name, section, depends, about, others):
-        self.release, self.name = release, name
-        self.root = release.empty(f"debian/{name}")
+    def __init__(self, release, machine, name, section, depends, about, others):
+        self.release, self.machine, self.name = release, machine, name
+        self.root = release.empty(f"debian/{machine.debian}/{name}")
         self.fields = {
             "Package": name,
             "Version": f"{release.version}-1",
-            "Architecture": "amd64",
+            "Architecture": machine.debian,
             "Section": section,
             "Priority": "optional",
             "Maintainer": MAINTAINERS,
@@ -256,7 +351,7 @@ class Package:
     def build(self):
         """Writes the package."""
         share = f"usr/share/doc/{self.name}"
-        self.add_file(f"{share}/copyright", copyright_text().encode())
+        self.add_file(f"{share}/copyright", copyright_text(self.name == TOOLS).encode())
         self.add_file(f"{share}/changelog.Debian.gz", compress(changelog(self.release).encode()))
         files = {name: path for name, path in files_below(self.root, "").items() if not path.is_symlink()}
         sums = "".join(f"{hashlib.md5(path.read_bytes()).hexdigest()}  {name[1:]}\n" for name, path in sorted(files.items()))
@@ -267,13 +362,20 @@ class Package:
         for path in [self.root, *self.root.rglob("*")]:
             if path.is_dir():
                 path.chmod(0o755)
-        target = self.release.folder("debian") / f"{self.name}_{self.release.version}-1_amd64.deb"
+        target = self.release.folder("debian") / f"{self.name}_{self.release.version}-1_{self.machine.debian}.deb"
         self.release.run("dpkg-deb", "--root-owner-group", "--threads-max=1", "-Zxz", "--build", self.root, target)
 
 
-def copyright_text():
-    """The licences as Debian has them."""
+def copyright_text(is_program):
+    """The licences as Debian has them, and for a program what else is linked into it."""
     mit = (ROOT / "LICENSE-MIT").read_text(encoding="utf-8").strip().splitlines()
+    kit = [
+        "",
+        "Files: usr/bin/*",
+        "Copyright: The Muxandu authors and Jacob Pratt et al.; the authors of the kit of Rattle",
+        "License: MIT or Apache-2.0",
+        "Comment: The library of the kit of Rattle is linked in. The kit's files name no licence.",
+    ]
     return "\n".join(
         [
             "Format: https://www.debian.org/doc/packaging-manuals/copyright-format/1.0/",
@@ -281,6 +383,9 @@ def copyright_text():
             "",
             "Files: *",
             "Copyright: The Muxandu authors and Jacob Pratt et al.",
+            "License: MIT or Apache-2.0",
+            *(kit if is_program else []),
+            "",
             "License: MIT or Apache-2.0",
             " On Debian systems, the Apache License 2.0 is in /usr/share/common-licenses/Apache-2.0.",
             " The other licence is:",
@@ -308,18 +413,23 @@ def least_libc(path):
     return ".".join(map(str, max(asked, default=(2, 17))))
 
 
-def write_debian(release, archive):
-    """The packages of Debian: the shared library, the files to compile with, and the programs."""
-    staged = release.empty("debian/staged")
-    words = ("--archive", archive, "--libdir", LIBRARIES, "--destdir", staged, "/usr")
-    release.run(ROOT / "build-library", *words)
-    major, shared = release.version.split(".")[0], staged / "usr" / LIBRARIES / f"libmuxandu.so.{release.version}"
+# The package of Debian with the programs.
+TOOLS = "muxandu-tools"
+
+
+def write_debian(release, machine):
+    """The packages of Debian: the shared library, and the files to compile with."""
+    staged = release.empty(f"debian/{machine.debian}/staged")
+    words = ("--libdir", machine.libraries, "--destdir", staged, "/usr")
+    release.run(ROOT / "build-library", *machine.words, *words)
+    major, shared = release.version.split(".")[0], staged / "usr" / machine.libraries / f"libmuxandu.so.{release.version}"
     runs, compiles = f"libmuxandu{major}", "libmuxandu-dev"
     calls = sorted(read_interface()["calls"])
     symbols = [f"libmuxandu.so.{major} {runs} #MINVER#", f" MUXANDU_{major}@MUXANDU_{major} {release.version}"]
     symbols += [f" {call}@MUXANDU_{major} {release.version}" for call in calls]
     library = Package(
         release,
+        machine,
         runs,
         "libs",
         f"libc6 (>= {least_libc(shared)})",
@@ -331,20 +441,30 @@ def write_debian(release, archive):
         },
     )
     library.fields["Multi-Arch"] = "same"
-    develop = Package(release, compiles, "libdevel", f"{runs} (= {release.version}-1)", "development files", {})
+    develop = Package(release, machine, compiles, "libdevel", f"{runs} (= {release.version}-1)", "development files", {})
     for name, path in files_below(staged, "").items():
         inside = name[1:]
         if "libmuxandu.so." in path.name:
             library.copy(inside, path)
             if not path.is_symlink():
-                release.run("strip", "--strip-unneeded", library.root / inside)
+                release.run(
+                    machine.compiler.replace("gcc", "strip") if machine.name == OF_ARM else "strip",
+                    "--strip-unneeded",
+                    library.root / inside,
+                )
                 (library.root / inside).chmod(0o644)
         elif "/share/man/" in name and not path.is_symlink():
             develop.add_file(f"{inside}.gz", compress(path.read_bytes()))
         elif "/share/" not in name:
             develop.copy(inside, path)
+    for package in (library, develop):
+        package.build()
+
+
+def write_debian_tools(release, machine):
+    """The package of Debian with the programs, for this machine."""
     tools = Package(
-        release, "muxandu-tools", "utils", f"libc6 (>= {least_libc(release.built / 'stamps')})", "programs for logs", {}
+        release, machine, TOOLS, "utils", f"libc6 (>= {least_libc(release.built / 'stamps')})", "programs for logs", {}
     )
     tools.copy("usr/bin/stamps", release.built / "stamps")
     release.run("strip", tools.root / "usr/bin/stamps")
@@ -353,8 +473,7 @@ def write_debian(release, archive):
     tools.add_file("usr/share/bash-completion/completions/stamps", (share / "stamps.bash").read_bytes())
     tools.add_file("usr/share/zsh/vendor-completions/_stamps", (share / "_stamps").read_bytes())
     tools.add_file("usr/share/fish/vendor_completions.d/stamps.fish", (share / "stamps.fish").read_bytes())
-    for package in (library, develop, tools):
-        package.build()
+    tools.build()
 
 
 def hash_of(path):
@@ -371,25 +490,104 @@ def artefacts(release):
     }
 
 
-def write_proof(release, toolchain):
-    """PROVED: the commit, the kit that proved it, and the checksum of each source and each file of the release."""
+def form_of(name, machine_list):
+    """The form of the library that a file of the release has."""
+    kind = name.partition("/")[0]
+    if kind == "programs" or Path(name).name.startswith(TOOLS):
+        return PROGRAM
+    if name.endswith("-c.tar.gz") or (kind == "python" and name.endswith(".tar.gz")):
+        return ONE_FILE
+    if kind in ("c", "python", "sqlite", "postgres", "debian"):
+        own = machine_list[0]
+        return next(
+            (one.form for one in machine_list[1:] if re.search(rf"\b({one.name}|{one.debian})\b", name.replace("_", " "))),
+            own.form,
+        )
+    return {"rust": ERASED, "javascript": MODULE, "page": MODULE}.get(kind, SOURCES)
+
+
+def write_proof(release, toolchain, machine_list):
+    """CHECKSUMS: the commit, the kit that proved it, the checksum of each source and each file of the release, and its form."""
     listed = release.run("git", "ls-tree", "-r", "-z", "--name-only", release.commit, "crates", "crates.txt").decode()
     sources = [ROOT / name for name in listed.split("\0") if name]
+    files = artefacts(release)
     lines = [f"version {release.version}", f"commit {release.commit}", f"rt {toolchain}", ""]
     lines += ["Sources:"] + [f"{hash_of(path)}  {path.relative_to(ROOT)}" for path in sources]
-    lines += ["", "Files:"] + [f"{hash_of(path)}  {name}" for name, path in artefacts(release).items()]
-    (release.out / "PROVED").write_text("\n".join(lines) + "\n", encoding="utf-8")
+    lines += ["", "Files:"] + [f"{hash_of(path)}  {name}" for name, path in files.items()]
+    lines += ["", "Forms of the library:"]
+    lines += [f"{name}: {form_of(name, machine_list)}" for name in files if "/" in name]
+    (release.out / "CHECKSUMS").write_text("\n".join(lines) + "\n", encoding="utf-8")
 
 
 def write_sums(release):
     """SHA256SUMS, which `sha256sum --check` reads."""
-    names = {**artefacts(release), "PROVED": release.out / "PROVED"}
+    names = {**artefacts(release), "CHECKSUMS": release.out / "CHECKSUMS"}
     text = "".join(f"{hash_of(path)}  {name}\n" for name, path in names.items())
     (release.out / "SHA256SUMS").write_text(text, encoding="utf-8")
 
 
+# What is linked into files of the release, and the tools that made them: the licence of each, and how a tool says its version.
+KIT_LICENCE = "LicenseRef-Rattle-Kit"
+KIT_TEXT = "The files of the kit of Rattle name no licence for the library that it compiles into programs, archives and modules."
+GLIBC_LICENCE = "LGPL-2.1-or-later"
+TOOLS_OF_RELEASE = {
+    "gcc": ("GPL-3.0-or-later WITH GCC-exception-3.1", ("cc", "--version")),
+    "gcc-aarch64": ("GPL-3.0-or-later WITH GCC-exception-3.1", ("aarch64-linux-gnu-gcc", "--version")),
+    "binutils": ("GPL-3.0-or-later", ("ld", "--version")),
+    "binaryen": ("Apache-2.0", ("wasm-opt", "--version")),
+    "cargo": (LICENCE, ("cargo", "--version")),
+    "python": ("PSF-2.0", (PYTHON, "--version")),
+    "setuptools": ("MIT", (PYTHON, "-c", "import setuptools; print(setuptools.__version__)")),
+    "wheel": ("MIT", (PYTHON, "-c", "import wheel; print(wheel.__version__)")),
+    "dpkg": ("GPL-2.0-or-later", ("dpkg-deb", "--version")),
+    "postgresql": ("PostgreSQL", ("pg_config", "--version")),
+    "zstd": ("BSD-3-Clause", ("zstd", "--version")),
+}
+
+
+def version_said(words):
+    """The version in the first line that a tool prints, or None where it is not there."""
+    if shutil.which(str(words[0])) is None:
+        return None
+    said = subprocess.run([str(word) for word in words], capture_output=True, encoding="utf-8", check=False)
+    if said.returncode != 0:
+        return None
+    first = said.stdout.partition("\n")[0]
+    found = re.search(r"\d+(?:\.\d+)+[\w+~-]*", first) or re.search(r"\d+", first)
+    return found and found[0]
+
+
+def clang_of_kit():
+    """The compiler of the kit, which made the archive, the programs and the module."""
+    return Path(shutil.which("rattle") or "").resolve().parent.parent / "toolchain" / "bin" / "clang"
+
+
+def packages_of_bill(release, toolchain):
+    """The packages of the bill, each with its licence and how the release is related to it."""
+    found = [("Package", "muxandu", release.version, LICENCE, None), ("Kit", "rattle", toolchain, KIT_LICENCE, "STATIC_LINK")]
+    if any(release.built.glob("*.o")):
+        found.append(("Linked-glibc", "glibc", version_said(("ldd", "--version")), GLIBC_LICENCE, "STATIC_LINK"))
+    tools = {"llvm": ("Apache-2.0 WITH LLVM-exception", (clang_of_kit(), "--version")), **TOOLS_OF_RELEASE}
+    for name, (licence, words) in tools.items():
+        said = version_said(words)
+        if said:
+            found.append((f"Tool-{name}", name, said, licence, "BUILD_TOOL_OF"))
+    return found
+
+
+def licence_of(name, release):
+    """The licence of a file of the release, with that of what is compiled or linked into it."""
+    kind = name.partition("/")[0]
+    if kind in ("source", "rust", "proofs") or "/" not in name:
+        return LICENCE
+    linked = f"({LICENCE}) AND {KIT_LICENCE}"
+    if kind == "programs" and any(release.built.glob("*.o")):
+        linked += f" AND {GLIBC_LICENCE}"
+    return linked
+
+
 def write_bill(release, toolchain):
-    """The bill of materials in the form of SPDX 2.3: the files of the release, and the kit whose library is in the binaries."""
+    """The bill of materials in the form of SPDX 2.3: the files of the release, what is linked into them, and the tools."""
     created = release.run("date", "--utc", "+%Y-%m-%dT%H:%M:%SZ", f"--date=@{release.second}").decode().strip()
     files = [
         {
@@ -399,19 +597,26 @@ def write_bill(release, toolchain):
                 {"algorithm": "SHA1", "checksumValue": hashlib.sha1(path.read_bytes()).hexdigest()},
                 {"algorithm": "SHA256", "checksumValue": hash_of(path)},
             ],
-            "licenseConcluded": LICENCE,
+            "licenseConcluded": licence_of(name, release),
             "copyrightText": "NOASSERTION",
         }
         for number, (name, path) in enumerate(artefacts(release).items())
     ]
-    packages = [
-        {"SPDXID": "SPDXRef-Package", "name": "muxandu", "versionInfo": release.version, "licenseDeclared": LICENCE},
-        {"SPDXID": "SPDXRef-Kit", "name": "rattle", "versionInfo": toolchain, "licenseDeclared": "NOASSERTION"},
-    ]
-    for package in packages:
-        package |= {"downloadLocation": "NOASSERTION", "filesAnalyzed": False, "licenseConcluded": package["licenseDeclared"]}
-        package |= {"copyrightText": "NOASSERTION"}
-    relations = [("SPDXRef-DOCUMENT", "DESCRIBES", "SPDXRef-Package"), ("SPDXRef-Package", "STATIC_LINK", "SPDXRef-Kit")]
+    packages, relations = [], [("SPDXRef-DOCUMENT", "DESCRIBES", "SPDXRef-Package")]
+    for ident, name, version, licence, kind in packages_of_bill(release, toolchain):
+        packages.append({"SPDXID": f"SPDXRef-{ident}", "name": name, "versionInfo": version, "licenseDeclared": licence})
+        packages[-1] |= {"downloadLocation": "NOASSERTION", "licenseConcluded": licence, "copyrightText": "NOASSERTION"}
+        if kind == "BUILD_TOOL_OF":
+            relations.append((f"SPDXRef-{ident}", kind, "SPDXRef-Package"))
+        elif kind:
+            relations.append(("SPDXRef-Package", kind, f"SPDXRef-{ident}"))
+            packages[-1]["filesAnalyzed"] = False
+        elif files:
+            code = "".join(sorted(file["checksums"][0]["checksumValue"] for file in files))
+            packages[-1]["packageVerificationCode"] = {"packageVerificationCodeValue": hashlib.sha1(code.encode()).hexdigest()}
+            packages[-1]["licenseInfoFromFiles"] = ["NOASSERTION"]
+        if kind == "BUILD_TOOL_OF":
+            packages[-1]["filesAnalyzed"] = False
     relations += [("SPDXRef-Package", "CONTAINS", file["SPDXID"]) for file in files]
     bill = {
         "spdxVersion": "SPDX-2.3",
@@ -420,6 +625,7 @@ def write_bill(release, toolchain):
         "name": f"muxandu-{release.version}",
         "documentNamespace": f"https://muxandu.example/spdx/{release.version}-{release.commit}",
         "creationInfo": {"created": created, "creators": ["Organization: Muxandu maintainers"]},
+        "hasExtractedLicensingInfos": [{"licenseId": KIT_LICENCE, "extractedText": KIT_TEXT}],
         "packages": packages,
         "files": files,
         "relationships": [
@@ -431,22 +637,26 @@ def write_bill(release, toolchain):
 
 def write_all(release, toolchain):
     """Writes each file of the release."""
-    archive, dist = release.built / "libmuxandu_c.a", release.work / "dist"
-    release.run(ROOT / "build-library", "--archive", archive, dist)
+    machine_list = machines(release)
     write_sources(release)
     write_rust(release)
-    write_python(release, dist)
+    write_python(release, machine_list)
     write_javascript(release)
-    write_sqlite(release, dist)
-    if shutil.which("pg_config") is not None:
-        write_postgres(release, dist)
-    write_library(release, dist)
-    if shutil.which("wasm2c"):
-        write_portable(release)
-    write_programs(release)
-    write_page(release)
+    for machine in machine_list:
+        write_library(release, machine)
+        if machine.name == OF_ARM and not shutil.which(machine.compiler):
+            continue
+        write_sqlite(release, machine)
+        if shutil.which("pg_config") is not None:
+            write_postgres(release, machine)
+        if shutil.which("dpkg-deb"):
+            write_debian(release, machine)
     if shutil.which("dpkg-deb"):
-        write_debian(release, archive)
+        write_debian_tools(release, machine_list[0])
+    write_c_file(release)
+    write_programs(release)
+    write_proofs(release)
+    write_page(release)
     write_bill(release, toolchain)
-    write_proof(release, toolchain)
+    write_proof(release, toolchain, machine_list)
     write_sums(release)

@@ -21,3 +21,24 @@ impl<T: Clone> ToList<T> for [T] {
         Ok(self.to_vec().into())
     }
 }
+
+/// Refusals that tests return: in Rattle each value that prints is an error.
+macro_rules! errors {
+    ($($Refusal:path)+) => {
+        $(
+            impl std::fmt::Display for $Refusal {
+                fn fmt(&self, f: &mut std::fmt::Formatter<'_>) -> std::fmt::Result {
+                    write!(f, "{self:?}")
+                }
+            }
+
+            impl std::error::Error for $Refusal {}
+        )+
+    };
+}
+
+errors! {
+    crate::proved::zone_files::FileRefusal
+    crate::proved::zone_files::RuleRefusal
+    crate::proved::zoned_times::LocalRefusal
+}

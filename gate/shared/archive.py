@@ -1,6 +1,6 @@
 """Where the steps of the gate that stand on the library for C find it.
 
-There are two archives. The proved one is there once the crates are proved. The other is of the module of WebAssembly in packages/javascript,
+There are two archives. The proved one is there once the crates are proved. The other is of the module of WebAssembly in packages/c,
 and is there in half a minute: the tests of a package see the same by it. So a step takes it, unless it judges the archive itself.
 """
 
@@ -57,7 +57,7 @@ def make_unproved(folder):
         write_text(os.path.join(folder, NO_UNPROVED_ARCHIVE), ended.stdout)
         print(f"no archive is made without proofs: {ended.stdout.strip()}", flush=True)
         return None
-    print(f"the archive is of packages/javascript/module.js, and not proved; {ended.stdout.strip()}", flush=True)
+    print(f"the archive is of packages/c/muxandu.wasm, and not proved; {ended.stdout.strip()}", flush=True)
     return archive
 
 

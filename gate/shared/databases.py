@@ -1,9 +1,10 @@
 """What the steps of the extensions of databases share: their shared objects, the blocks of their pages, and the names of errors."""
 
+import os
 import platform
 import re
 
-from shared.gate import read_text, run
+from shared.gate import REPOSITORY, read_text, run
 
 
 def compare_symbols(tally, path, case, own):
@@ -35,6 +36,27 @@ def sql_examples(page):
         if kind == "sql":
             assert after == "text", text
             yield text, wanted
+
+
+# A statement of SQL in a line of text, or a part of one: it names more than words of the language.
+STATEMENT = r"(?:ALTER|COPY|CREATE|DEFAULT|DELETE|DROP|EXCLUDE|INSERT|SELECT|UPDATE|USING|WHERE) (?=.*[a-z0-9]).*"
+
+
+def statements_in_text(page):
+    """The statements of SQL in the text of a page, outside its blocks."""
+    text = re.sub(r"^```.*?^```$", "", read_text(page), flags=re.MULTILINE | re.DOTALL)
+    return [span for span in re.findall(r"`([^`\n]+)`", text) if re.fullmatch(STATEMENT, span)]
+
+
+def compare_statements(tally, page, known, ask):
+    """Runs each statement in the text of a page as `known` has it: in which script, where {} is the statement, and what that prints, a
+    part of it. None else is there."""
+    name, others = os.path.relpath(page, REPOSITORY), set(statements_in_text(page)) ^ set(known)
+    tally.count(f"{name}: the statements in its text", f"nothing runs, or has, {sorted(others)}" if others else None)
+    for span, (script, wanted) in known.items():
+        printed = ask(script.replace("{}", span) + ";\n")
+        fine = printed.strip() == wanted or (wanted and wanted in printed)
+        tally.count(f"{name}: {span}", None if fine else f"must print {wanted!r}", printed)
 
 
 def status_name(refusal, text):

@@ -4,6 +4,7 @@ A form that is neither in these lists nor plain Rust ends the tool with its file
 
 import os
 import re
+import textwrap
 
 from shared.gate import REPOSITORY, read_text
 from shared.rattle_tokens import CLOSING, COMMENTS, Lexer, Refused
@@ -17,7 +18,11 @@ CRATES = (
     "stamp_times",
     "rfc3339",
     "local_texts",
+    "duration_texts",
     "format_descriptions",
+    "zones",
+    "zone_files",
+    "zoned_times",
 )
 FOLDER = os.path.join("packages", "rust")
 NAME = "muxandu"
@@ -26,6 +31,9 @@ MADE = os.path.join(FOLDER, "src", MODULE)
 ROOT = f"{MADE}.rs"
 BY_HAND = (ROOT, os.path.join(MADE, "memory.rs"))
 LISTS = os.path.join("make", "erased_lists")
+
+# How far functions that require something can be called, by the words of requires.txt.
+NARROWED = {"closed": f"in crate::{MODULE}", "package": "crate"}
 
 # The calls that break what a function requires: each panics.
 PANICS = os.path.join(FOLDER, "tests", "requires.rs")
@@ -56,14 +64,16 @@ PUT_IN = {
     "memory": "`crate::proved::memory` before `Vec`, and in place of `std::alloc`: lists whose growth can fail",
     "inline": "`#[inline]` on each function without a hint, since a caller is another crate in Rust",
     "track": "`#[track_caller]` on the functions that panic where what they require is broken, as tests/requires.rs says",
+    "panics": "in documentation `# Panics` on these functions, in place of the sentence that the caller proves what they require",
     "const": "`const` on the functions that rustc takes with it: const.txt",
     "closed": "`(in crate::proved)` after the `pub` of functions that requires.txt closes, and of a `pub use` of them",
+    "package": "`(crate)` after the `pub` of functions that requires.txt keeps within the package",
     "niche": "the field `niche` of the types below, and its only value in their literals, so that an `Option` of one takes no more room",
     "equality": "`PartialEq` in the `derive` of the types below, so that their constants are patterns",
     "str": "`core::` before `str::from_utf8`, which rustc has as a function of the type since 1.87 alone",
     "inherent": "methods of the traits below as methods of their types too, which need no import and can be const",
     "contract": "the contract as text",
-    "example": "the imports and the result that an example of the documentation has in Rust",
+    "example": "the imports and the result that an example of the documentation has in Rust, or that it is text, where no program can call it",
 }
 
 # Modules that are left out of the erased text.
@@ -118,8 +128,8 @@ class Lists:
         self.asking = {}
         for line in self.read(root, "requires.txt"):
             kind, _, key = line.partition(": ")
-            if kind not in ("closed", "wraps"):
-                raise Refused(*self.lines[line], f"`{kind}` is not closed or wraps")
+            if kind not in ("wraps", *NARROWED):
+                raise Refused(*self.lines[line], f"`{kind}` is not wraps, {' or '.join(NARROWED)}")
             self.asking[key] = kind
             self.lines[key] = self.lines[line]
         for key in self.panicking(root):
@@ -216,12 +226,19 @@ class Source:
             if token.kind not in ("ghost", "clause"):
                 continue
             if token.kind == "ghost":
-                before = next((it for it in reversed(self.tokens[:place]) if it.is_code), None)
-                if before is not None and (before.kind != "mark" or before.text not in "{};,]"):
-                    self.refuse(token.at, f"`{before.text} ghost` is no ghost form that is known")
+                before = [it for it in self.tokens[:place] if it.is_code and not it.reason][-2:]
+                if self.is_public_member(before):
+                    before.pop().reason = "ghost member"
+                if before and (before[-1].kind != "mark" or before[-1].text not in "{};,]"):
+                    self.refuse(token.at, f"`{before[-1].text} ghost` is no ghost form that is known")
             is_import = re.match(r"ghost\s+use\b", token.text)
             token.reason = "clause" if token.kind == "clause" else "ghost use" if is_import else "ghost member"
             self.count(token.reason)
+
+    @staticmethod
+    def is_public_member(before):
+        """Whether the two words before a ghost form are the `pub` of a field and what comes before it."""
+        return [it.text for it in before[1:]] == ["pub"] and before[0].text in ("{", ",")
 
     def take_attributes(self):
         for place, token in enumerate(self.code):
@@ -463,7 +480,7 @@ class Source:
         while place:
             if self.code[place - 1].text in ("pub", "const"):
                 place -= 1
-            elif self.has(place - 4, "pub ( crate )"):
+            elif self.has(place - 4, "pub ( crate )") or self.has(place - 4, "pub ( super )"):
                 place -= 4
             else:
                 break
@@ -495,7 +512,7 @@ class Source:
         for token in self.tokens[first + 1 : last]:
             if token.kind == "mark":
                 depth += (token.text in CLOSING) - (token.text in CLOSING.values())
-            elif token.reason == "ghost member" and depth == 0 and not PROOF.search(token.text):
+            elif token.kind == "ghost" and token.reason == "ghost member" and depth == 0 and not PROOF.search(token.text):
                 inner.append(token)
         return inner
 
@@ -514,11 +531,13 @@ class Source:
             self.put_inline(place, first)
             if self.panics(place, owner):
                 self.put_in(first, "#[track_caller]\n", "track")
-            if self.asks(place, kind, start) and (is_public or kind not in ("own", "free")) and self.is_closed(place, key):
+            asks = self.asks(place, kind, start) and (is_public or kind not in ("own", "free"))
+            how = self.answer_of(place, key) if asks else None
+            if how in NARROWED:
                 if not is_public:
-                    self.refuse(self.code[place].at, f"{key} cannot be closed")
-                self.put_in(first + 1, f"(in crate::{MODULE}) ", "closed")
-                if kind == "free":
+                    self.refuse(self.code[place].at, f"{key} cannot be {how}")
+                self.put_in(first + 1, f"({NARROWED[how]}) ", how)
+                if kind == "free" and how == "closed":
                     closed.add(self.code[place + 1].text)
             if kind in ("own", "free") and key in self.lists.const:
                 self.lists.used.add(key)
@@ -526,13 +545,13 @@ class Source:
                     self.put_in(place, "const ", "const")
         return closed
 
-    def is_closed(self, place, key):
-        """Whether the list closes a function that asks something of its caller."""
+    def answer_of(self, place, key):
+        """What a safe caller gets that does not keep to what a function asks, by the lists."""
         if key not in self.lists.asking:
             names = f"{os.path.join(LISTS, 'requires.txt')} nor {PANICS}"
             self.refuse(self.code[place].at, f"{key} requires something, and neither {names} says what a safe caller gets")
         self.lists.used.add(key)
-        return self.lists.asking[key] == "closed"
+        return self.lists.asking[key]
 
     def panics(self, place, owner):
         """Whether the list says that a function panics, or the method of a trait that it is."""
@@ -556,6 +575,9 @@ class Source:
             opening = next((it for it in range(place, end) if self.code[it].text == "{"), None)
             names = [it for it in range(place, end) if self.code[it].text in closed]
             if not names:
+                continue
+            if opening is None and names == [end - 1] and self.has(end - 3, ": :"):
+                self.put_in(place + 1, f"(in crate::{MODULE}) ", "closed")
                 continue
             if opening is None or self.code[names[0] - 1].text not in "{,":
                 self.refuse(self.code[place].at, "a `pub use` of a closed function has no braces")
@@ -632,8 +654,9 @@ class Source:
         self.count("contract")
 
     def lines_of(self, token):
-        """The lines of a clause, in line with its first."""
-        first, *rest = token.text.removesuffix(",").split("\n")
+        """The lines of a clause or a ghost member, in line with its first."""
+        text = token.text.removesuffix(",") if token.kind == "clause" else token.text
+        first, *rest = text.split("\n")
         before = self.text[: token.at].rsplit("\n", 1)[-1]
         indent = len(before) - len(before.lstrip())
         return [first, *(line[indent:] if not line[:indent].strip() else line.lstrip() for line in rest)]
@@ -710,8 +733,41 @@ class Source:
         return closed
 
 
-def examples_of_rust(source, text):
-    """Examples of the documentation as Rust has them: with no runtime, and with the imports and the result that it wants."""
+# The documentation of a function that panics, and the sentence of it in Rattle, with the call that is the test.
+DOCS_OF_PANIC = re.compile(r"(?:^ *///.*\n)+(?=(?: *#\[.*\]\n)*? *#\[track_caller\]\n)", re.MULTILINE)
+PROVES = re.compile(r" The caller proves this(?:, or calls (\[`[^`]+`\]))?; the `time` crate panics\.")
+
+
+def panics_of_rust(source, text):
+    """The heading `# Panics` for each function that panics."""
+
+    def with_heading(found):
+        lead = re.match(r" *///", found[0])[0]
+        text, contract, rest = found[0].partition("/// # Contract\n")
+        first, gap, others = text.removesuffix(f"{lead}\n").partition(f"{lead}\n")
+        words = " ".join(line.removeprefix(lead).strip() for line in first.splitlines())
+        said = PROVES.search(words)
+        if said:
+            words = textwrap.wrap(PROVES.sub("", words), 100, initial_indent=f"{lead} ", subsequent_indent=f"{lead} ")
+            first = "\n".join([*words, ""])
+        test = [f" {said[1]} returns `None` there."] if said and said[1] else []
+        heading = ["", " # Panics", "", " The call breaks a `requires` of the contract.", *test, *[""] * bool(contract)]
+        source.count("panics")
+        return "".join([first, gap, others, *(f"{lead}{line}\n" for line in heading), contract, rest])
+
+    return DOCS_OF_PANIC.sub(with_heading, text)
+
+
+def shown_libraries(root=REPOSITORY):
+    """The libraries that the package shows to its users: the others are within it."""
+    path = os.path.join(root, ROOT)
+    text = read_text(path) if os.path.exists(path) else ""
+    return [name for name in CRATES if f"\npub(crate) mod {name};\n" not in text]
+
+
+def examples_of_rust(source, text, is_shown=True):
+    """Examples of the documentation as Rust has them: with no runtime, and with the imports and the result that it wants. Those of a
+    library within the package are text, since no program can call it."""
     lines, is_example, is_other = [], False, False
     for line in text.split("\n"):
         match = re.match(r"(\s*//[/!]) ?(.*)", line)
@@ -723,6 +779,10 @@ def examples_of_rust(source, text):
             if is_other or rest != "```":
                 is_other = not is_other
                 lines.append(line)
+            elif not is_shown:
+                is_other = True
+                lines.append(f"{line}text")
+                source.count("example")
             elif not is_example:
                 lines += [line, *(f"{lead} # {part}" for part in PRELUDE)]
                 is_example = True
@@ -772,6 +832,7 @@ def erase_all(root=REPOSITORY, const=None):
     lists, shim = Lists(root), shim_names(root)
     if const is not None:
         lists.const = const
+    shown = shown_libraries(root)
     made, counts, functions, found, closed, rest = {}, {}, {}, [], {}, []
     for crate, path in sources(root):
         name = os.path.join("crates", crate, "src", path)
@@ -783,7 +844,7 @@ def erase_all(root=REPOSITORY, const=None):
         raise unused
     for crate, path, source in found:
         source.put_closed_uses(closed[crate])
-        text = examples_of_rust(source, source.text_left())
+        text = examples_of_rust(source, panics_of_rust(source, source.text_left()), crate in shown)
         head = f"// Made by make/erase of {source.path}. Do not edit.\n"
         made[erased_name(crate, path)] = head + text
         own, others = source.parts()

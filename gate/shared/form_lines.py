@@ -33,7 +33,7 @@ PARTS = {
     "G": ("year", "[0-9]{4}"),
     "y": ("short", "[0-9]{2}"),
     "m": ("month", "[0-9]{2}"),
-    "b": ("name", "|".join(MONTHS)),
+    "b": ("name", f"(?i:{'|'.join(MONTHS)})"),
     "d": ("day", "[0-9]{2}"),
     "e": ("day", " [0-9]|[0-9]{1,2}"),
     "a": ("weekday", "|".join(WEEKDAYS)),
@@ -57,15 +57,15 @@ FORMS = {
     "journald": ("", "%Y-%m-%d{T|t| }%H:%M:%S{.%f|,%f|}%z%n"),
     "rfc5424": ("<%p>%p ", "%Y-%m-%dT%H:%M:%S{.%f|}{%z:%n|Z|z}"),
     "rfc3164": ("<%p>", "%b %e %H:%M:%S{.%f|}"),
-    "git": ("", "%Y-%m-%d %H:%M:%S{.%f|,%f|} %z{:|}%n"),
+    "git": ("", "%Y{-|/}%m{-|/}%d %H:%M:%S{.%f|,%f|} %z{:|}%n"),
     "postgres": ("", "%Y-%m-%d %H:%M:%S{.%f|} {UTC|GMT}"),
     "clf": ("", "%d/%b/%Y:%H:%M:%S %z%n"),
     "git-default": ("", "%a %b %e %H:%M:%S %Y %z%n"),
     "date": ("", "%a %b %e %H:%M:%S {UTC|GMT} %Y"),
     "rfc2822": ("", "{%a, |}%e %b %Y %H:%M{:%S|} {%z%n|GMT|UTC|Z|z}"),
     "haproxy": ("", "%d/%b/%Y:%H:%M:%S{.%f|}"),
-    "nginx-error": ("", "%Y/%m/%d %H:%M:%S{.%f|,%F|}"),
-    "local-comma": ("", "%Y-%m-%d{T|t| }%H:%M:%S,%F"),
+    "nginx-error": ("", "%Y/%m/%d %H:%M:%S{.%f|}"),
+    "local-comma": ("", "%Y{-|/}%m{-|/}%d{T|t| }%H:%M:%S,%F"),
     "local": ("", "%Y-%m-%d{T|t| |\t}%l:%M:%S{.%f|}"),
     "two-spaces": ("", "%Y-%m-%d  %H:%M:%S{.%f|,%F|}"),
     "apache-error": ("", "%a %b %e %H:%M:%S{.%f|} %Y"),
@@ -88,7 +88,7 @@ FORMS = {
     "splunk": ("", "%m-%d-%Y %H:%M:%S.%f %z%n"),
     "clickhouse": ("", "%Y.%m.%d %H:%M:%S{.%f|}"),
     "suricata": ("", "%m/%d/%Y-%H:%M:%S.%f"),
-    "redis-2.8": ("", "%d %b %H:%M:%S.%f"),
+    "redis-2.8": ("", "%d %b %H:%M:%S{.%f|}"),
     "glog": ("{I|W|E|F}", "%G%m%d %H:%M:%S.%f"),
     "unix": ("", "%s{.%f|}"),
     "unix-ms": ("", "%s"),
@@ -163,7 +163,8 @@ NAMES_OF_TIME = ('"$date":"', 'time="', "time=", "time='", "ts=", " t=", "t=", "
 NAMED = ("access", "after:[", *(f"json:{name}" for name in MEMBERS_OF_TIME.split()))
 NAMED += (*(f"after:{name}" for name in NAMES_OF_TIME), 'after:"eventTime":"', "after:: [")
 PLACES = ("front", "coloured", *NAMED, "after:] ", "after: at ", "field:2", "field:3", "field:1")
-PLACES += ("after:,", 'after:"', "after:#", "after:: ")
+PLACES += ("after:,", 'after:"', "after:#", "after:: ", 'after:ime":"', 'after:ime": "', 'after:tamp":"', 'after:tamp": "')
+PLACES += ("after:='", "after:>", 'after:,"', "after:=")
 
 # The first and the last of the seconds at which a count is a Unix timestamp where no name leads to it, and the most between two.
 NEAR, MOST_APART = (946_684_800, 2_208_988_799), 366 * 86_400
@@ -207,19 +208,24 @@ ZONE_AREAS = sorted({name.partition("/")[0] for name in ZONE_NAMES})
 
 # What belongs to a stamp, so that one ends before it in no form, and to none but a count. What belongs to one without an offset, to
 # one without a fraction, and to one without a year.
-WORD_GOES_ON = "[0-9A-Za-z+-]|[.:][0-9A-Za-z]"
+WORD_GOES_ON = "[0-9A-Za-z_+-]|[.:][0-9A-Za-z]"
 CONTINUED = re.compile(WORD_GOES_ON.encode())
-COUNT_CONTINUED = re.compile(rb"[0-9A-Za-z+-]|[.][0-9A-Za-z]")
+COUNT_CONTINUED = re.compile(rb"[0-9A-Za-z_+-]|[.][0-9A-Za-z]")
 HALVES = f"[AaPp][.]?[Mm](?!{WORD_GOES_ON})"
 WORDS_OF_ZONES = "|".join(map(in_either_case, ZONES))
 NAMES_OF_ZONES = "|".join(map(in_either_case, ZONE_AREAS))
-OFFSETS = f"[+-][0-9]{{2}}|(?:{WORDS_OF_ZONES}|(?i:utc|gmt))(?![A-Za-z])|{HALVES}|(?:{NAMES_OF_ZONES})/[A-Za-z]"
-OFFSET_FOLLOWS = re.compile(f"[ \t]*[(\\[]?(?:{OFFSETS})".encode())
+NAMED_OFFSETS = f"(?:{WORDS_OF_ZONES}|(?i:utc|gmt))(?![A-Za-z])|{HALVES}|(?:{NAMES_OF_ZONES})/[A-Za-z]"
+OFFSETS = f"[+-][0-9]{{2}}|{NAMED_OFFSETS}"
+OFFSET_FOLLOWS = re.compile(f"[ \t]*[(\\[]?(?:{OFFSETS})|[ \t]*[,;|\"'][ \t,;|\"']*(?:{NAMED_OFFSETS})".encode())
 FRACTION_FOLLOWS = re.compile(rb",(?:[0-9]{3}|[0-9]{6}|[0-9]{9})(?![0-9]|,[^ \t])", re.DOTALL)
+
+# The last word before a stamp: for one without an offset it is no time zone.
+LAST_WORD = re.compile(rb"([^ \t()\[\]]+)[ \t()\[\]]*\Z", re.DOTALL)
+ZONE_BEFORE = re.compile(f"(?=[A-Za-z]{{2}})(?:{NAMED_OFFSETS})".encode())
 YEAR_FOLLOWS = re.compile(f" (?:19|20)[0-9]{{2}}(?!{WORD_GOES_ON})".encode())
 
 # The bytes of a line that decide on its stamp, and those up to the end of a stamp.
-LONGEST_FRONT, LONGEST_STAMP = 1_024, 1_000
+LONGEST_FRONT, LONGEST_STAMP = 65_533, 65_500
 
 CHOICES = re.compile(r"\{([^}]*)\}|%(.)|([^{%]+)")
 
@@ -280,6 +286,12 @@ def place_in(place, line):
     return at + len(text.encode()) if at >= 0 else None
 
 
+def is_behind_zone(before):
+    """Whether the last word of a text is the name of a time zone."""
+    word = LAST_WORD.search(before)
+    return bool(word and ZONE_BEFORE.match(word[1]))
+
+
 class Reader:
     """Finds the stamps of a log in a form at a place, with an offset in minutes and a year for those that have none."""
 
@@ -303,6 +315,8 @@ class Reader:
             return None
         if not is_whole and (OFFSET_FOLLOWS.match(rest) or self.has_column(parts, found[0], rest)):
             return None
+        if not is_whole and is_behind_zone(line[: found.start()]):
+            return None
         if not {"year", "short", "count"} & set(parts) and YEAR_FOLLOWS.match(rest):
             return None
         instant = self.instant_of(parts, is_whole)
@@ -319,7 +333,7 @@ class Reader:
         nanos = int((parts.get("fraction", "") + "000000000")[:9])
         if "count" in parts:
             return int(parts["count"]) * 10 ** (9 - DIGITS[self.name][1]) + nanos
-        month = int(parts["month"]) if "month" in parts else MONTHS.index(parts["name"]) + 1
+        month = int(parts["month"]) if "month" in parts else MONTHS.index(parts["name"].title()) + 1
         year, day = self.year_of(parts, month), int(parts["day"])
         clock = [int(parts.get(part, 0)) for part in ("hour", "minute", "second")]
         hours, minutes = int(parts.get("hours", "+0")[1:]), int(parts.get("minutes", 0))
@@ -382,16 +396,28 @@ def stamps_of(reader, lines):
     return found if is_steady and all(NEAR[0] <= second <= NEAR[1] for second in seconds) else [], False
 
 
+def readers_of(lines):
+    """The forms and the places that are tried in lines, but for the places that none of them has."""
+    places = [place for place in PLACES if any(place_in(place, line[:LONGEST_FRONT]) is not None for line in lines)]
+    return [(name, place) for place in places for name in CHOSEN]
+
+
 @functools.lru_cache(maxsize=10_000)
 def is_read(line):
     """Whether a reader finds a stamp in a line."""
-    return any(stamps_of((name, place), [line])[0] for place in PLACES for name in CHOSEN)
+    return any(stamps_of(reader, [line])[0] for reader in readers_of([line]))
 
 
 def chosen_reader(lines):
     """The form and the place that are chosen by the first lines of a log: those that both first lines have, or most lines. Counts
     without a fraction are chosen where two grow slowly, or a name is before them."""
-    readers = [(name, place) for place in PLACES for name in CHOSEN]
+    return reader_of(tuple(lines))
+
+
+@functools.lru_cache(maxsize=10_000)
+def reader_of(lines):
+    """The form and the place that these lines choose, which programs that are tried one after another share."""
+    readers = readers_of(lines)
 
     def count(reader, among):
         found, is_sure = stamps_of(reader, among)
@@ -401,8 +427,8 @@ def chosen_reader(lines):
         both = next((reader for reader in readers if count(reader, lines[:2]) == 2), None)
         if both:
             return both
-    best = max(readers, key=lambda reader: count(reader, lines))
-    return best if count(best, lines) else None
+    best = max(readers, key=lambda reader: count(reader, lines), default=None)
+    return best if best and count(best, lines) else None
 
 
 # The most lines that choose a form. The lines in which the nearest form is looked for, their bytes, and those that are shown.
@@ -415,6 +441,7 @@ def finds(reader, line):
     return isinstance(Reader(*reader).stamp_of(line), tuple)
 
 
+@functools.lru_cache(maxsize=10_000)
 def chosen_in(data):
     """The form and the place that a log chooses by its first lines with a stamp that some reader reads."""
     ended, rest = first_lines(data)
@@ -428,6 +455,7 @@ def chosen_in(data):
     return chosen_reader(found) if found else None
 
 
+@functools.lru_cache(maxsize=10_000)
 def nearest(data):
     """What is told of the form that is nearest to a line of a log, or None."""
     for number, line in enumerate(data[:BLOCK].removeprefix(MARK).split(b"\n")[:-1][:MOST_NEAR], 1):
@@ -478,7 +506,9 @@ def stamp_text(rng, name, second):
         "G": f"{wall.year:04}",
         "y": f"{wall.year % 100:02}",
         "m": f"{wall.month:02}",
-        "b": MONTHS[wall.month - 1],
+        "b": rng.choice(
+            (MONTHS[wall.month - 1], MONTHS[wall.month - 1], MONTHS[wall.month - 1].upper(), MONTHS[wall.month - 1].lower())
+        ),
         "d": f"{wall.day:02}",
         "e": rng.choice((f"{wall.day:2}", str(wall.day), f"{wall.day:02}")),
         "a": rng.choice((WEEKDAYS[wall.weekday()], rng.choice(WEEKDAYS))),
@@ -544,6 +574,7 @@ ENDS += [
     b"a",
     b" +5",
     b"_",
+    b"_123 x",
     b"\xc3\xa9",
     b": x",
     b". x",
@@ -598,7 +629,7 @@ def form_lines(rng, name, count):
         line += zone_end(rng) if rng.random() < 0.1 else rng.choice(ENDS[:11] if rng.random() < 0.7 else ENDS)
         lines.append(mutate(rng, line) if rng.random() < 0.33 else line)
         if rng.random() < 0.001:
-            lines[-1] = b" " * rng.choice((900, 960, 975, 980, 1_000, 1_010)) + lines[-1]
+            lines[-1] = b" " * rng.choice((1_000, 65_460, 65_475, 65_480, 65_500, 65_510)) + lines[-1]
     return lines
 
 
@@ -612,6 +643,7 @@ def ended_lines(rng, name):
 
 # Texts before a stamp, some with what a place looks for.
 WORDS = [b"host", b"[worker-3]", b"time=", b'a="b\\"c"', b"INFO", b"-", b"10.0.0.1", b"ts", b"{}"]
+WORDS += [b"IST", b"(CET)", b"Asia/Tokyo", b"[utc", b"PSTN", b"gmt:"]
 MEMBERS = [
     b'"level": "info"',
     b'"a": {"%s": "2001-01-01"}',

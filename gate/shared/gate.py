@@ -46,10 +46,13 @@ STARTERS = {"times_bench": ("bench",), "stamps": ("stamps", "check")}
 PROVED_IN_COPY, KEPT = "proved_in_copy", "kept"
 
 # The crates of callers. They have no proofs of their own, and nothing for other crates.
-CRATES_OF_CALLERS = ("uses", "pattern_uses")
+CRATES_OF_CALLERS = ("uses", "pattern_uses", "zone_uses")
 
 # How much of what a command printed is shown where it failed.
 SHOWN = 3_000
+
+# The variable by which ./test tells when it began, and for how many seconds from then on its steps begin to try what has no verdict.
+BEGUN, TRYING = "GATE_BEGUN", 130 * 60
 
 # How many seconds a step waits for another: seven times those of the whole gate on a machine with nothing else to do.
 LONGEST_WAIT = 40_000
@@ -160,6 +163,15 @@ def write_text(path, text):
         file.write(text)
 
 
+def replace_text(path, text):
+    """Writes a file that others may read at the same time, if it is not so already."""
+    if os.path.exists(path) and read_text(path) == text:
+        return
+    written = f"{path}.{os.getpid()}"
+    write_text(written, text)
+    os.replace(written, path)
+
+
 def run(words, folder=None, text=None, env=None, timeout=None, **variables):
     """Runs a command on a text, with more variables, and gives the ended process with all that it printed, in one text."""
     return subprocess.run(
@@ -185,6 +197,14 @@ def is_beside():
     """Whether this step runs beside another that takes all processors."""
     shared = os.environ.get(SHARED_FOLDER)
     return bool(shared) and os.path.exists(os.path.join(shared, BESIDE))
+
+
+def why_late():
+    """Why a step begins to try nothing more, or None: ./test began too long ago. Outside of ./test no step is late."""
+    begun = os.environ.get(BEGUN)
+    is_late = begun and time.time() - float(begun) > TRYING
+    step = os.path.basename(sys.argv[0])
+    return f"./test tries new ones for {TRYING // 60} minutes, and gate/{step} without it tries all" if is_late else None
 
 
 def most_jobs():

@@ -1,6 +1,7 @@
 """The interface for C as data: packages/c/interface.json, which make/bindings writes from the sources of muxandu_c."""
 
 import json
+import subprocess
 import textwrap
 from pathlib import Path
 
@@ -36,7 +37,8 @@ result may replace one of them, as in muxandu_date_time_to_offset(at, 0, &at). A
 bytes between its fields, or after them: compare fields, not bytes.
 
 A call keeps nothing, shares nothing, takes no memory, waits for nothing and ends. You may call
-it from any thread, at the same time as others, from a signal handler and after fork.
+it from any thread, at the same time as others, from a signal handler and after fork. It takes at
+most MUXANDU_STACK bytes of stack.
 
 A call that returns a status returns 0, MUXANDU_OK, if it has written its result. Otherwise it
 returns the number of an error, whose name begins with MUXANDU_REFUSED_, and leaves `out` as it
@@ -80,3 +82,9 @@ def quoted(text):
 def read():
     """The description."""
     return json.loads(PATH.read_text(encoding="utf-8"))
+
+
+def declarations(language, root=ROOT):
+    """The declarations of the interface for Rust or Python, which tests have as the module muxandu_sys."""
+    words = [str(Path(root) / "make" / "bindings"), language]
+    return subprocess.run(words, stdin=subprocess.DEVNULL, stdout=subprocess.PIPE, encoding="utf-8", check=True).stdout

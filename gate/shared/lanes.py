@@ -7,8 +7,8 @@ import sys
 import time
 
 from .gate import (
-    ARCHIVE, ARCHIVE_CHOICE, BESIDE, NO_UNPROVED_ARCHIVE, PROVED_ALWAYS, SHARED_FOLDER, UNPROVED, UNPROVED_ALWAYS,
-    UNPROVED_ARCHIVE, write_text,
+    ARCHIVE, ARCHIVE_CHOICE, BEGUN, BESIDE, NO_UNPROVED_ARCHIVE, PROVED_ALWAYS, SHARED_FOLDER, STARTERS, UNPROVED, UNPROVED_ALWAYS,
+    UNPROVED_ARCHIVE, has_proved, write_text,
 )  # fmt: skip
 from .tasks import Counts, Task, known_before_the_end, processors
 
@@ -16,35 +16,41 @@ PROOFS = "rt ci"
 
 # The steps that begin at once, and wait for what is proved: on a copy of the repository, or with work for each processor at any time.
 # The latter take what the others leave, so that no step that has one task after another ends last for them.
-BESIDE_STEPS = ("proved_copy", "refused", "promises", "planted", "newcomer", "crate_tests")
+BESIDE_STEPS = ("proved_copy", "refused", "promises", "root_line", "planted", "newcomer", "crate_tests")
 FILLING = ("refused", "planted", "crate_tests")
 
 # The others, in the order in which they begin: those that need nothing proved; those over the library for C, which may be the one of
-# the module that is committed; those that judge the proved library. Any other step follows `rt ci`, the longest first.
+# the module that is committed; those that judge the proved library, or its module; those that run programs of `rt ci`, the longest
+# first, and which programs. Any other step follows `rt ci`.
 FREE = (
     "lint",
     "gate_tests",
     "first_builds",
     "forms",
+    "zones",
     "documented",
     "package_beside_time",
     "formats_beside_time",
     "crates_over_time",
+    "refused_memory",
 )
 OVER_A_LIBRARY = ("postgres", "python", "sqlite", "python_columns", "layout", "example_programs")
 OVER_THE_PROVED = ("library", "portable", "beside_time")
-LONGEST = ("erased", "test_release", "javascript")
+OVER_THE_MODULE = ("javascript",)
+OF_BOTH = ("test_release", "instructions")
+OF_PROGRAMS = {"stamps": ("stamps",), **dict.fromkeys(OF_BOTH, ("times_bench", "stamps"))}
+OF_PROGRAMS |= dict.fromkeys(("erased", "answers", "pages", "faults"), ("times_bench",))
 
 # The steps that wait for no Debian packages.
-WITHOUT_PACKAGES = (PROOFS, "proved_copy", "refused", "promises", "crate_tests")
+WITHOUT_PACKAGES = (PROOFS, "proved_copy", "refused", "promises", "root_line", "crate_tests")
 
 # The steps that take more rounds, and those that keep verdicts or prove a sample.
-LONGER = ("forms", "library", "postgres", "python", "stamps", "test_release")
-SAMPLED = ("refused", "promises", "planted", "crate_tests", "documented", "crates_over_time")
+LONGER = ("forms", "library", "postgres", "python", "stamps", "test_release", "zones")
+SAMPLED = ("refused", "promises", "root_line", "planted", "crate_tests", "documented", "crates_over_time", "refused_memory")
 
 # The steps of --quick, with the words of those that then have fewer cases; and why it leaves the others out.
 TOO_LONG = ("planted", "refused_memory", "crates_over_time", "portable")
-QUICK = dict.fromkeys((*FREE, *OVER_A_LIBRARY, *OVER_THE_PROVED, "erased", "javascript"), ())
+QUICK = dict.fromkeys((*FREE, *OVER_A_LIBRARY, *OVER_THE_PROVED, *OVER_THE_MODULE, "erased"), ())
 QUICK |= {"pages": ("--still",), "newcomer": ("--static",), "crate_tests": ("--unproved",)}
 QUICK = {step: words for step, words in QUICK.items() if step not in TOO_LONG}
 NEEDS_PROOFS, TAKES_LONG = "it needs what is proved, and --quick proves nothing", "it takes long for --quick"
@@ -63,8 +69,9 @@ class Gate:
 
     def __init__(self, words, folder):
         self.words, self.folder, self.counts = words, folder, Counts()
-        self.tasks, self.others, self.waiting = {}, {}, []
-        self.begun = self.told = time.monotonic()
+        self.tasks, self.others, self.waiting, self.kept = {}, {}, [], set()
+        self.begun = self.told = self.looked = time.monotonic()
+        self.began_at = int(time.time())
         self.followed, self.followed_to = None, 0
 
     def path(self, name):
@@ -76,6 +83,7 @@ class Gate:
     def variables(self, is_shared):
         """The variables of a step."""
         found = {SHARED_FOLDER: self.folder} if is_shared else {}
+        found |= {BEGUN: str(self.began_at)} if is_shared and not self.words.all else {}
         choice = UNPROVED_ALWAYS if self.words.quick else PROVED_ALWAYS if self.words.all else None
         return found | ({ARCHIVE_CHOICE: choice} if choice else {})
 
@@ -170,9 +178,11 @@ class Gate:
             return False
         if step in OVER_A_LIBRARY or self.words.quick and step in OVER_THE_PROVED:
             return self.has(UNPROVED_ARCHIVE) or self.has(NO_UNPROVED_ARCHIVE) and self.has_proved_library()
-        if step in OVER_THE_PROVED:
-            return self.has_proved_library()
-        return step in (*BESIDE_STEPS, *FREE) or not self.is_proving()
+        if self.words.quick or not self.is_proving():
+            return step not in OVER_THE_PROVED or self.has_proved_library()
+        if step in (*OVER_THE_PROVED, *OVER_THE_MODULE, *OF_BOTH) and not self.has_proved_library():
+            return False
+        return step in (*BESIDE_STEPS, *FREE, *OVER_THE_PROVED, *OVER_THE_MODULE) or self.has_programs(OF_PROGRAMS.get(step, ()))
 
     def most(self):
         """How many of the steps that do not begin at once run at the same time: few while `rt ci` runs, which takes all processors."""
@@ -184,13 +194,15 @@ class Gate:
     def begin_ready(self):
         """Begins the steps that can begin."""
         self.make_unproved_library()
+        if time.monotonic() - self.looked > 1:
+            self.keep_programs()
+            self.looked = time.monotonic()
         for step in list(self.waiting):
             is_beside = step in BESIDE_STEPS and not self.words.quick
             many = sum(task.name not in (PROOFS, *BESIDE_STEPS) or self.words.quick for task in self.running())
             if self.is_ready(step) and (is_beside or many < self.most()):
                 self.waiting.remove(step)
-                nice = 10 if step in FILLING else 5 if not is_beside and self.is_proving() else 0
-                self.begin(step, True, nice)
+                self.begin(step, True, 10 if step in FILLING else 5 if step != "proved_copy" and self.is_proving() else 0)
         if not self.waiting and not self.is_proving() and self.has(BESIDE):
             # the last ones have all processors
             os.remove(self.path(BESIDE))
@@ -221,18 +233,29 @@ class Gate:
                 self.counts.leave_out(step, reason)
 
     def keep_programs(self):
-        """Keeps the programs that `rt ci` has built for the steps that run them, and what each was linked from, if it was compiled now."""
-        for program in ("times_bench", "stamps"):
+        """Keeps each program that `rt ci` has proved and built for the steps that run it, and what it was linked from, if it was compiled
+        now. Once `rt ci` has ended, each that is there."""
+        for program in STARTERS:
             built = f"crates/{program}/out/{program}"
-            for source, name in ((built, "llvm"), (f"{built}.by-rattle", "rattle"), (f"{built}.o", "llvm.o")):
+            if program in self.kept or self.is_proving() and not has_proved(self.folder, program):
+                continue
+            self.kept.add(program)
+            for source, name in ((f"{built}.o", "llvm.o"), (built, "llvm"), (f"{built}.by-rattle", "rattle")):
                 if os.path.exists(source):
-                    shutil.copy(source, self.path(f"{program}_{name}"))
+                    # whoever looks for it finds it whole
+                    kept = self.path(f"{program}_{name}")
+                    shutil.copy(source, f"{kept}.new")
+                    os.replace(f"{kept}.new", kept)
+
+    def has_programs(self, names):
+        """Whether a step can run these programs while `rt ci` proves others; a step of no program cannot."""
+        return bool(names) and all(name in self.kept for name in names)
 
     # -- all steps, some of them, or each alone
 
     def run_together(self, steps):
         """Runs these steps: `rt ci` in front, if it is one of them, and the others beside it."""
-        order = [*BESIDE_STEPS, *FREE, *OVER_A_LIBRARY, *OVER_THE_PROVED, *LONGEST]
+        order = [*BESIDE_STEPS, *FREE, *OVER_A_LIBRARY, *OVER_THE_PROVED, *OF_PROGRAMS, *OVER_THE_MODULE]
         self.waiting = sorted((step for step in steps if step != PROOFS), key=lambda it: (*order, it).index(it))
         printed = [step for step in steps if step not in (PROOFS, *BESIDE_STEPS)] + [
             step for step in BESIDE_STEPS if step in steps

@@ -1,4 +1,4 @@
-"""The code that the module of WebAssembly in packages/javascript was made of, by a sum for each crate in a file beside it.
+"""The code that the modules of WebAssembly were made of, by a sum for each crate in a file beside that of C.
 
 Comments, contracts, proofs and tests are not in the sums, since no compiler makes code of them.
 """
@@ -10,13 +10,16 @@ from shared.gate import REPOSITORY, read_text
 from shared.rattle_tokens import Lexer, Refused
 
 CRATE = "muxandu_c"
-MODULE = os.path.join("packages", "javascript", "module.js")
-RECORD = os.path.join("packages", "javascript", "PROVED")
+MODULE = os.path.join("packages", "c", "muxandu.wasm")
+# The same without vectors, of which JavaScript has its calls.
+PLAIN = os.path.join("packages", "javascript", "plain.wasm")
+LOWERED = os.path.join("packages", "javascript", "module.js")
+RECORD = os.path.join("packages", "c", "CHECKSUMS")
 # How the parts begin of which no compiler makes code.
 ANSWERS = (["#", "[", "tactic"], ["#", "!", "[", "tactic"])
 TESTS = ["#", "[", "cfg", "(", "test", ")", "]", "mod"]
 
-HEAD = "# The code that module.js was made of. Made by make/module; `make/module check` compares it.\n"
+HEAD = "# The code that muxandu.wasm was made of, and what is made of it. Made by make/module; `make/module check` compares it.\n"
 
 
 def crates_below(root=REPOSITORY):
@@ -80,8 +83,10 @@ def sum_of_code(crate, root=REPOSITORY):
 
 def lines_of_record(root=REPOSITORY):
     """The lines that the record must have, by what each is of."""
-    with open(os.path.join(root, MODULE), "rb") as file:
-        found = {MODULE: hashlib.sha256(file.read()).hexdigest()}
+    found = {}
+    for name in (MODULE, PLAIN, LOWERED):
+        with open(os.path.join(root, name), "rb") as file:
+            found[name] = hashlib.sha256(file.read()).hexdigest()
     return found | {f"crates/{crate}/src": sum_of_code(crate, root) for crate in crates_below(root)}
 
 
@@ -98,7 +103,7 @@ def record(root=REPOSITORY):
 
 
 def differences(root=REPOSITORY):
-    """What is not as the record says: crates of which the module is not made, and the module."""
+    """What is not as the record says: crates of which the module is not made, the module, and what is made of it."""
     known, wanted = record(root), lines_of_record(root)
     return [name for name in {**wanted, **known} if known.get(name) != wanted.get(name)]
 

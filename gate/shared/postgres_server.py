@@ -188,8 +188,9 @@ class Extension:
         self.programs = copy_postgres(places, self.root)
         self.servers = []
 
-    def make(self, *words, **variables):
-        return run(["make", "-C", self.source, f"DIST={self.dist}", *words], **variables)
+    def make(self, *words, folder=None, **variables):
+        library = (f"MUXANDU={REPOSITORY}", f"MUXANDU_ARCHIVE={self.dist}/lib/libmuxandu.a")
+        return run(["make", "-C", folder or self.source, *library, *words], **variables)
 
     def server(self, name, port=None):
         """A server that is not yet started. All are ended with the extension."""

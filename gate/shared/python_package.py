@@ -10,8 +10,9 @@ PYTHON = "/usr/bin/python3" if os.path.exists("/usr/bin/python3") else sys.execu
 
 
 def build_package(dist, folder, root=REPOSITORY):
-    """Builds the package over a library that is laid out. Returns None, or what the build printed if it failed."""
-    variables = {"MUXANDU_DIST": os.path.abspath(dist), "MUXANDU_EXTENSION": "must", "PYTHONDONTWRITEBYTECODE": "1"}
+    """Builds the package over the archive of a library that is laid out. Returns None, or what the build printed if it failed."""
+    archive = os.path.join(os.path.abspath(dist), "lib", "libmuxandu.a")
+    variables = {"MUXANDU_ARCHIVE": archive, "MUXANDU_EXTENSION": "must", "PYTHONDONTWRITEBYTECODE": "1"}
     words = [PYTHON, "setup.py", "--quiet", "build", "--build-lib", os.path.abspath(folder)]
     ended = run(words, os.path.join(root, "packages", "python"), **variables)
     return None if ended.returncode == 0 else ended.stdout

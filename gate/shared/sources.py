@@ -8,15 +8,25 @@ from shared.gate import REPOSITORY, read_text
 RATTLE = (".rt", ".rs")
 
 
-def texts(*endings):
+def repository_here():
+    """The repository that the program is called in, if it has the crates of this library, or else this repository."""
+    folder = os.getcwd()
+    while folder != os.path.dirname(folder):
+        if all(os.path.exists(os.path.join(folder, name)) for name in ("crates.txt", "crates/calendar_values/src/lib.rt")):
+            return folder
+        folder = os.path.dirname(folder)
+    return REPOSITORY
+
+
+def texts(*endings, root=REPOSITORY):
     """The text of each file below crates/ with one of these endings, by its path from the repository's root."""
     found = {}
-    for folder, below, names in os.walk(os.path.join(REPOSITORY, "crates")):
+    for folder, below, names in os.walk(os.path.join(root, "crates")):
         below[:] = sorted(name for name in below if name != "out")
         for name in sorted(names):
             if name.endswith(endings):
                 path = os.path.join(folder, name)
-                found[os.path.relpath(path, REPOSITORY)] = read_text(path)
+                found[os.path.relpath(path, root)] = read_text(path)
     return found
 
 
@@ -30,8 +40,6 @@ def is_test(path):
     return path.split("/")[2:3] == ["tests"] or os.path.basename(path) == "tests.rt"
 
 
-def crates():
+def crates(root=REPOSITORY):
     """The names of the crates, in the order of crates.txt."""
-    return [
-        line.split(":")[0].split()[0] for line in read_text(os.path.join(REPOSITORY, "crates.txt")).split("\n") if ":" in line
-    ]
+    return [line.split(":")[0].split()[0] for line in read_text(os.path.join(root, "crates.txt")).split("\n") if ":" in line]

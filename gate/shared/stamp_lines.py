@@ -2,6 +2,7 @@
 hand."""
 
 import codecs
+import functools
 import heapq
 import random
 import re
@@ -11,11 +12,11 @@ from itertools import groupby
 
 # The form of a stamp, which nothing that belongs to a date-time follows.
 FORM = re.compile(
-    rb"(\d{4})-(\d\d)-(\d\d)[Tt ](\d\d):(\d\d):(\d\d)(?:\.(\d+))?(?:([Zz])|([+-])(\d\d):(\d\d))(?![0-9A-Za-z+-]|[.:][0-9A-Za-z])"
+    rb"(\d{4})-(\d\d)-(\d\d)[Tt ](\d\d):(\d\d):(\d\d)(?:\.(\d+))?(?:([Zz])|([+-])(\d\d):(\d\d))(?![0-9A-Za-z_+-]|[.:][0-9A-Za-z])"
 )
 
 # The most bytes of a stamp.
-LONGEST = 1_022
+LONGEST = 65_500
 
 # The byte order mark of UTF-8.
 MARK = codecs.BOM_UTF8
@@ -43,6 +44,7 @@ def days_of(year, month):
     return 31 if month == 12 else (second_of(*following, 1, 0, 0, 0) - first) // 86_400
 
 
+@functools.lru_cache(maxsize=100_000)
 def stamp_of(line):
     """The instant in nanoseconds and the length of the stamp in front, or why there is none: None, or the name of a part."""
     found = FORM.match(line)
@@ -68,19 +70,25 @@ def stamp_of(line):
     return instant * NANOS + fraction, found.end()
 
 
-def wall_text(wall):
-    """The text of a wall clock in nanoseconds without an offset, with nine digits; None outside the years 0 to 9999."""
-    seconds, nanos = divmod(wall, NANOS)
-    shifts = 0
+@functools.lru_cache(maxsize=100_000)
+def minute_text(minute):
+    """The text of a wall clock in minutes without an offset; None outside the years 0 to 9999."""
+    seconds, shifts = minute * 60, 0
     if seconds < -62_135_596_800:
         seconds, shifts = seconds + SECONDS_OF_400_YEARS, 1
     if seconds < -62_135_596_800 or seconds > 253_402_300_799:
         return None
     at = EPOCH + timedelta(seconds=seconds - EPOCH_SECONDS)
     year = at.year - 400 * shifts
-    if year < 0:
-        return None
-    return f"{year:04}-{at.month:02}-{at.day:02}T{at.hour:02}:{at.minute:02}:{at.second:02}.{nanos:09}".encode()
+    return None if year < 0 else f"{year:04}-{at.month:02}-{at.day:02}T{at.hour:02}:{at.minute:02}".encode()
+
+
+def wall_text(wall):
+    """The text of a wall clock in nanoseconds without an offset, with nine digits; None outside the years 0 to 9999."""
+    seconds, nanos = divmod(wall, NANOS)
+    minute, second = divmod(seconds, 60)
+    text = minute_text(minute)
+    return None if text is None else b"%b:%02d.%09d" % (text, second, nanos)
 
 
 def text_at(instant, offset):
@@ -122,18 +130,25 @@ def told_bare(data, find=stamp_of, name=""):
     return b"stamps: " + (f"{name}: ".encode() if name else b"") + BARE
 
 
-def told_tally(data, find=stamp_of, name=""):
+def told_tally(data, find=stamp_of, name="", is_check=False):
     """What is told of the lines of a log that have no stamp, and the status: 1 where none has one, or more than half of those with
-    text have none. A line that begins with a blank or a tab continues another. `find` has the stamp of a line."""
-    stamped, bare, continued = 0, [], 0
+    text have none. A line that begins with a blank or a tab continues another, unless it is too long. `find` has the stamp of a line.
+    `check` tells the lines that are too long alone.
+    """
+    stamped, bare, continued, long = 0, [], 0, []
     for number, line in enumerate(re.findall(rb"[^\n]*\n|[^\n]+", data), 1):
         stamp = find((line[len(MARK) :] if number == 1 and line.startswith(MARK) else line).removesuffix(b"\n"))
         if isinstance(stamp, tuple):
             stamped += 1
+        elif len(line.removesuffix(b"\n")) > LONGEST:
+            bare.append(number)
+            long.append(number)
         elif line[:1] in (b" ", b"\t"):
             continued += 1
         elif line.strip(b"\n") not in (b"", b"\r"):
             bare.append(number)
+    if is_check:
+        return told_long(long, name), 0
     total = stamped + len(bare)
     if len(bare) > 1:
         text = f"{len(bare)} of {total} lines have no stamp, the first is line {bare[0]}"
@@ -147,7 +162,17 @@ def told_tally(data, find=stamp_of, name=""):
         "" if not continued else f", and {continued} lines continue others" if continued > 1 else ", and 1 line continues another"
     )
     front = f"stamps: {name}: " if name else "stamps: "
-    return f"{front}{text}{more}\n".encode(), int(len(bare) > stamped or not total)
+    return f"{front}{text}{more}\n".encode() + told_long(long, name), int(len(bare) > stamped or not total)
+
+
+def told_long(long, name=""):
+    """What is told of lines of these numbers that have no stamp in their first bytes, and more bytes than these."""
+    if not long:
+        return b""
+    some, one = f"{len(long)} lines have no stamp in their", f"line {long[0]} has no stamp in its"
+    text = f"{one if len(long) == 1 else some} first {LONGEST:,} bytes"
+    text += f", the first is line {long[0]}" if len(long) > 1 else ""
+    return f"stamps: {f'{name}: ' if name else ''}{text}: put it there, as jq -c '{{time}} + .' does\n".encode()
 
 
 STYLES = {"utc": lambda instant, _: text_at(instant, 0), "at": text_at, "unix": lambda instant, _: unix_text(instant)}
@@ -208,19 +233,34 @@ def merge_of(logs, is_strict, finds=None):
 
 
 # What continues a word behind a date-time.
-CONTINUES = re.compile(rb"[0-9A-Za-z+-]|[.:][0-9A-Za-z]")
+CONTINUES = re.compile(rb"[0-9A-Za-z_+-]|[.:][0-9A-Za-z]")
 
 
-def front_lines(data, offset, find=stamp_of):
+def member_with(line, stamp, text, is_number):
+    """A record of JSON with a text in place of its stamp: a number has no quotes, and a date has those of the text, or its own where
+    it was a number."""
+    start, end = stamp[2], stamp[1]
+    before, after = line[start - 1 : start] == b'"', line[end : end + 1] == b'"'
+    if is_number and before and after:
+        return line[: start - 1] + text + line[end + 1 :]
+    quote = b"" if is_number or before else b'"'
+    return line[:start] + quote + text + quote + line[end:]
+
+
+def front_lines(data, offset, find=stamp_of, is_member=lambda: False, is_unix=False):
     """A log whose lines have their stamps in front at an offset of so many minutes, as `merge --to` reads it: in place of a stamp that
     begins its line and whose word ends there, and else before the line with a blank. A byte order mark before a stamp goes away.
+    A stamp in a member of JSON that `is_member` tells of stays in its place, in Unix seconds if it `is_unix`.
     """
     made = []
     for number, line in enumerate(re.findall(rb"[^\n]*\n|[^\n]+", data), 1):
         text = line[len(MARK) :] if number == 1 and line.startswith(MARK) else line
         stamp = find(text.removesuffix(b"\n"))
         front = text_at(stamp[0], offset) if isinstance(stamp, tuple) else None
-        if front is None:
+        if isinstance(stamp, tuple) and is_member():
+            member = unix_text(stamp[0]) if is_unix else front
+            made.append(line if member is None else line[: len(line) - len(text)] + member_with(text, stamp, member, is_unix))
+        elif front is None:
             made.append(line)
         elif sum(stamp[2:]) == 0 and not CONTINUES.match(text, stamp[1]):
             made.append(front + text[stamp[1] :])
@@ -292,7 +332,7 @@ def cut_merge_of(logs, broken):
     """What `stamps merge` writes for logs if a read of this one fails after its bytes, and the lines that it names: all up to its
     last line, and that line too if it has the bytes that decide on it."""
     rest = logs[broken].rpartition(b"\n")[2]
-    last = logs[broken].count(b"\n") + (len(rest) >= 1_027)
+    last = logs[broken].count(b"\n") + (len(rest) >= BLOCK)
     texts, backs = [], {}
     for line in lines_in_order(logs) if last else ():
         if line.is_back:
@@ -301,6 +341,16 @@ def cut_merge_of(logs, broken):
         if (line.log, line.number) == (broken, last):
             break
     return text_of(texts), sorted(backs.items())
+
+
+def bounds_of(words):
+    """The instant from which a cut writes lines, and the one before which: those of one word may have no end."""
+    instants = [found[0] for found in (stamp_of(word.encode()) for word in words[1:]) if isinstance(found, tuple)]
+    if words[0] == "until":
+        return float("-inf"), instants[0]
+    if words[0] in ("since", "between"):
+        return instants[0], instants[1] if len(instants) > 1 else float("inf")
+    return None
 
 
 def result_of(words, data, find=stamp_of):
@@ -312,7 +362,7 @@ def result_of(words, data, find=stamp_of):
     written = []
     last = latest = None
     goes_on = word == "until"
-    bound = stamp_of(words[1].encode())[0] if word in ("since", "until") else None
+    bounds = bounds_of(words)
     offset = offset_of(words[1]) if word == "at" else 0
     limit = duration_of(words[1]) if word == "gaps" else 0
 
@@ -361,7 +411,7 @@ def result_of(words, data, find=stamp_of):
             last = stamp[0]
         else:
             if is_read:
-                goes_on = (stamp[0] >= bound) == (word == "since")
+                goes_on = bounds[0] <= stamp[0] < bounds[1]
             if goes_on:
                 written.append(front + line + end)
     if word == "check" and last is None and data:
@@ -439,9 +489,9 @@ def lines_of(seed, count, is_ordered=False):
             rest = b" [worker-%d] GET /items/%d took %d ms" % (rng.randrange(8), rng.randrange(10_000), rng.randrange(500))
             lines.append(stamp_text(rng, second, rng.randrange(NANOS) if not is_ordered else 0) + rest)
         if kind > 0.9995 and not is_ordered:
-            lines[-1] += b" long" * rng.choice((195, 200, 300, 20_000))
+            lines[-1] += b" long" * rng.choice((195, 13_080, 13_090, 20_000))
         if kind < 0.0003 and not is_ordered:
-            lines[-1] = b"2024-06-30T12:00:00." + b"1" * rng.choice((1_001, 1_002, 1_003, 2_000)) + b"Z long stamp"
+            lines[-1] = b"2024-06-30T12:00:00." + b"1" * rng.choice((1_001, 65_478, 65_479, 65_480, 70_000)) + b"Z long stamp"
     return b"\n".join(lines) + (b"\n" if seed % 2 == 0 else b"")
 
 

@@ -79,6 +79,10 @@ class Task:
         if not self.has_ended():
             os.killpg(self.process.pid, signal.SIGTERM)
 
+    def minutes(self, begun):
+        """Its name, and the minutes from that moment to its begin and its end."""
+        return f"{self.name} {(self.begun - begun) / 60:.0f} to {(self.begun + self.seconds - begun) / 60:.0f}"
+
     def text(self):
         with open(self.log, encoding="utf-8", errors="replace") as log:
             return log.read()
@@ -96,7 +100,9 @@ class Counts:
 
     def __init__(self):
         self.passed = self.failed = self.skipped = 0
-        self.failures, self.skips, self.worked, self.least = [], [], {}, floors()
+        self.failures, self.skips, self.tasks, self.least = [], [], [], floors()
+        # what each step that passed counted: the cases that passed and those that were skipped, and the lines of the latter
+        self.good = {}
 
     def fail(self, step, problem):
         """Counts a step that failed for a reason that it does not count itself."""
@@ -110,14 +116,20 @@ class Counts:
         self.skips.append(f"{step}: skipped: {cases} {'case' if cases == 1 else 'cases'}: {reason}")
         self.skipped += cases
 
+    def keep(self, step, passed, skipped, skips):
+        """Counts a step that passed in an earlier run, and is not run again."""
+        print(f"== {step}: kept: {passed} passed, {skipped} skipped: no file has changed since that can break it", flush=True)
+        self.passed, self.skipped, self.skips = self.passed + passed, self.skipped + skipped, self.skips + skips
+
     def count(self, task, less=None):
         """Counts what a step printed, and how it ended. Where there is a reason for which it may have fewer cases, those are skipped."""
         step, lines, least = task.name, task.text().rstrip("\n").split("\n"), self.least.get(task.name)
         found = COUNT.fullmatch(lines[-1])
         passed, failed, skipped = (int(it or 0) for it in found.groups()) if found else (0, 0, 0)
+        problems, skips = len(self.failures), [f"{step}: {line}" for line in lines if line.startswith("skipped: ")]
         self.passed, self.failed, self.skipped = self.passed + passed, self.failed + failed, self.skipped + skipped
-        self.skips += [f"{step}: {line}" for line in lines if line.startswith("skipped: ")]
-        self.worked[step] = task.worked
+        self.skips += skips
+        self.tasks.append(task)
         cases = passed + skipped
         if failed:
             shown = {at for number, line in enumerate(lines) if TOLD.search(line) for at in range(max(0, number - 2), number + 1)}
@@ -130,11 +142,15 @@ class Counts:
             self.leave_out(step, less, least - cases)
         elif cases < least:
             self.fail(step, f"it has {cases} cases, and gate/counts.txt says {least} or more")
+        if len(self.failures) == problems:
+            self.good[step] = (passed, skipped, skips)
 
     def print_end(self, begun):
         print("\n".join([*self.skips, *self.failures, ""]), end="")
-        times = ", ".join(f"{step} {worked}" for step, worked in sorted(self.worked.items(), key=lambda it: -it[1]))
-        print(textwrap.fill(f"seconds of processors: {times}", 130))
+        worked = (f"{task.name} {task.worked}" for task in sorted(self.tasks, key=lambda it: -it.worked))
+        print(textwrap.fill(f"seconds of processors: {', '.join(worked)}", 130))
+        ended = sorted(self.tasks, key=lambda it: it.begun + it.seconds)
+        print(textwrap.fill(f"minutes from begin to end: {', '.join(task.minutes(begun) for task in ended)}", 130))
         minutes, worked = (int(it / 60) for it in (time.monotonic() - begun, sum(os.times()[:4])))
         print(f"{minutes} min on {processors()} processors, which worked for {worked} min")
         print(f"{self.passed} passed, {self.failed} failed, {self.skipped} skipped", flush=True)

@@ -15,13 +15,15 @@ name say, in this crate and in those below. Of a function that it calls it sees 
 - the attributes of the root of the crate, the kit, and the code that judges what a check prints.
 
 Lemmas, and lists of them, are left out: what is false stays so by other lemmas. A body whose changes are not in its function alone
-has the sources of its whole crate in its key, since other functions see them.
+has the sources of its whole crate in its key, since other functions see them. So has a twin, whose key has the function that
+refuses it too.
 
 What it cannot see is an instance that the prover picks by a type that nothing names. For such a case there are the sample and `--all`.
 """
 
 import collections
 import os
+from dataclasses import replace
 
 from shared.gate import read_text
 from shared.source_parts import Part, called_in, cited_files, read_source, read_specs, without_imports, words_of
@@ -186,10 +188,11 @@ class Names:
 
 
 class Keys:
-    """The keys of the wrong bodies of a repository, with texts as `Texts` has them, and what judges: the kit and the code."""
+    """The keys of the wrong bodies of a repository, with texts as `Texts` has them, and what judges: the kit and the code, and the code
+    for twins."""
 
-    def __init__(self, texts, judge):
-        self.texts, self.judge, self.crates, self.names = texts, judge, {}, {}
+    def __init__(self, texts, judge, twin_judge=()):
+        self.texts, self.judge, self.twin_judge, self.crates, self.names = texts, judge, twin_judge, {}, {}
         self.below = {}
         for line in texts.read("crates.txt").split("\n"):
             name, separator, below = line.partition(":")
@@ -268,5 +271,9 @@ class Keys:
         is_alone = functions and is_in_function(folder, wrong, self.texts.read)
         whole = [] if is_alone else [self.sources_of(it) for it in ([name] if functions else self.seen_by(name))]
         own = [*functions, *names.contracts.get(wrong.function.rpartition("::")[2], ())]
+        if wrong.twin:
+            other = replace(wrong, function=wrong.twin)
+            body = (*body, wrong.twin, self.twin_judge, self.answers_of(name, wrong.twin))
+            own += [*self.functions_of(name, other), *self.answer_parts(name, other)]
         reached = names.reached_from([*own, *self.change_parts(name, wrong), *self.answer_parts(name, wrong)])
         return sum_of(body, whole, self.crate(name).root_rest(), sorted({part.sum for part in reached}))

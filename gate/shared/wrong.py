@@ -27,13 +27,15 @@ FUNCTION = re.compile(r"(?P<indent> *)(?:pub(?:\([^)]*\))? |const |unsafe |exter
 @dataclass
 class Wrong:
     """A wrong body: its file and its name, what it does in words, the function that it makes wrong, the clause that it breaks,
-    and what it changes: for each text that a file of the crate has once, or first after a text that it has once, another."""
+    and what it changes: for each text that a file of the crate has once, or first after a text that it has once, another.
+    A twin changes the body and the definition that its contract cites, and `twin` is the function whose clause it breaks."""
 
     path: str
     name: str
     says: str = ""
     function: str = ""
     clause: str = ""
+    twin: str = ""
     changes: list = field(default_factory=list)
 
     @property
@@ -48,7 +50,7 @@ def body_of(path, name, lines, file=""):
     for line in lines:
         word, _, rest = line.partition(":")
         rest = rest.removeprefix(" ")
-        if word in ("says", "function", "clause"):
+        if word in ("says", "function", "clause", "twin"):
             setattr(wrong, word, rest.strip())
         elif word == "file":
             file = rest.strip()
@@ -94,6 +96,13 @@ def wrong_bodies(folder, names=(), parts=FOLDERS):
     """The wrong bodies of a crate, or those of these names."""
     found = [wrong for part, path in files_of(folder, parts) if path.endswith(ENDINGS[part]) for wrong in read(path)]
     return [wrong for wrong in found if not names or wrong.name in names]
+
+
+def lack_of_twin(wrong):
+    """What a twin lacks, or None: it changes a source and a definition, and names the clause that it breaks."""
+    parts = {file.partition("/")[0] for file, *_ in wrong.changes}
+    lacks = [part for part in ("src", "specs") if part not in parts]
+    return f"a twin changes a body and its definition, and this one changes no file of {lacks[0]}/" if lacks else None
 
 
 def place_of(folder, wrong):

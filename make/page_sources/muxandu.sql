@@ -82,6 +82,7 @@ C: offset_timestamp_difference(offset_timestamp, offset_timestamp) RETURNS exact
 C: exact_duration_plus(exact_duration, exact_duration) RETURNS exact_duration
 C: exact_duration_minus(exact_duration, exact_duration) RETURNS exact_duration
 C: exact_duration_negative(exact_duration) RETURNS exact_duration
+C: magnitude(exact_duration) RETURNS exact_duration AS exact_duration_magnitude
 C: exact_duration_plus_timestamp(exact_duration, offset_timestamp) RETURNS offset_timestamp
 C: exact_duration_times(exact_duration, numeric) RETURNS exact_duration
 C: exact_duration_of_times(numeric, exact_duration) RETURNS exact_duration
@@ -118,8 +119,10 @@ CREATE OPERATOR / (
 );
 C: add_months(offset_timestamp, integer) RETURNS offset_timestamp AS offset_timestamp_add_months
 C: whole_units(exact_duration, text) RETURNS bigint AS exact_duration_count
+C: offset_timestamp_series_support(internal) RETURNS internal
 CREATE FUNCTION generate_series(offset_timestamp, offset_timestamp, exact_duration) RETURNS SETOF offset_timestamp
-    LANGUAGE C IMMUTABLE STRICT PARALLEL SAFE ROWS 1000 AS 'MODULE_PATHNAME', 'offset_timestamp_series';
+    LANGUAGE C IMMUTABLE STRICT PARALLEL SAFE ROWS 1000 SUPPORT offset_timestamp_series_support
+    AS 'MODULE_PATHNAME', 'offset_timestamp_series';
 C: date_bin(exact_duration, offset_timestamp, offset_timestamp) RETURNS offset_timestamp AS offset_timestamp_bin
 C: in_range(offset_timestamp, offset_timestamp, exact_duration, boolean, boolean) RETURNS boolean AS offset_timestamp_in_range
 
@@ -239,8 +242,7 @@ CREATE AGGREGATE avg(exact_duration) (
 -- Casts: each call takes a timestamptz, at the offset 0
 C: offset_timestamp(timestamptz) RETURNS offset_timestamp AS offset_timestamp_from_timestamptz
 C: offset_timestamp(timestamptz, integer) RETURNS offset_timestamp AS offset_timestamp_from_timestamptz
-CREATE FUNCTION offset_timestamp_digits_support(internal) RETURNS internal
-    LANGUAGE C IMMUTABLE STRICT PARALLEL SAFE AS 'MODULE_PATHNAME', 'offset_timestamp_digits_support';
+C: offset_timestamp_digits_support(internal) RETURNS internal
 CREATE FUNCTION offset_timestamp_digits(offset_timestamp, integer) RETURNS offset_timestamp
     LANGUAGE C IMMUTABLE STRICT PARALLEL SAFE SUPPORT offset_timestamp_digits_support AS 'MODULE_PATHNAME', 'offset_timestamp_digits';
 C: timestamptz(offset_timestamp) RETURNS timestamptz AS offset_timestamp_to_timestamptz
@@ -270,5 +272,22 @@ C: local_date(offset_timestamp) RETURNS date AS offset_timestamp_local_date
 C: date_trunc(text, offset_timestamp) RETURNS offset_timestamp AS offset_timestamp_truncate
 C: date_part(text, offset_timestamp) RETURNS bigint AS offset_timestamp_part
 C: date_part(text, exact_duration) RETURNS numeric AS exact_duration_part
+-- EXTRACT calls the function of this name in pg_catalog, from PostgreSQL 14 on.
+C: pg_catalog.extract(text, exact_duration) RETURNS numeric AS exact_duration_part
 C: offset_timestamp_refused(text) RETURNS text
 C: offset_timestamp_or_null(text) RETURNS offset_timestamp
+
+-- Time zones, by the files of the server, which an upgrade of the machine may change
+CREATE FUNCTION at_zone(offset_timestamp, text) RETURNS offset_timestamp
+    LANGUAGE C STABLE STRICT PARALLEL SAFE AS 'MODULE_PATHNAME', 'offset_timestamp_at_zone';
+CREATE FUNCTION from_local(timestamp, text) RETURNS offset_timestamp
+    LANGUAGE C STABLE STRICT PARALLEL SAFE AS 'MODULE_PATHNAME', 'offset_timestamp_from_local';
+CREATE FUNCTION from_local(timestamp, text, text) RETURNS offset_timestamp
+    LANGUAGE C STABLE STRICT PARALLEL SAFE AS 'MODULE_PATHNAME', 'offset_timestamp_from_local';
+
+-- Texts of another form, by format descriptions
+C: offset_timestamp_format(offset_timestamp, text) RETURNS text
+C: offset_timestamp_parse(text, text) RETURNS offset_timestamp
+C: offset_timestamp_parse(text, text, text) RETURNS offset_timestamp
+C: offset_timestamp_parse_or_null(text, text) RETURNS offset_timestamp
+C: offset_timestamp_parse_or_null(text, text, text) RETURNS offset_timestamp

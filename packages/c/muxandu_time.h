@@ -20,7 +20,9 @@ extern "C" {
 #define MUXANDU_HAS_TIMESPEC 1
 
 /* The instant of a struct timespec. Refused TIMESTAMP, then NANOSECOND. */
-MUXANDU_INLINE MuxanduStatus muxandu_timestamp_from_timespec(const struct timespec *from, MuxanduTimestamp *out) {
+MUXANDU_NODISCARD
+MUXANDU_INLINE MuxanduStatus muxandu_timestamp_from_timespec(const struct timespec *from,
+                                                             MuxanduTimestamp *out) MUXANDU_NOEXCEPT {
     MuxanduTimestamp at;
     MuxanduStatus status;
     at.seconds = from->tv_sec;
@@ -33,7 +35,9 @@ MUXANDU_INLINE MuxanduStatus muxandu_timestamp_from_timespec(const struct timesp
 
 /* The struct timespec of an instant. Refused as the timestamp, then RESULT if time_t has 32 bits
  * and does not hold the second. */
-MUXANDU_INLINE MuxanduStatus muxandu_timespec_from_timestamp(MuxanduTimestamp at, struct timespec *out) {
+MUXANDU_NODISCARD
+MUXANDU_INLINE MuxanduStatus muxandu_timespec_from_timestamp(MuxanduTimestamp at,
+                                                             struct timespec *out) MUXANDU_NOEXCEPT {
     MuxanduStatus status = muxandu_timestamp_check(at);
     if (status != MUXANDU_OK) return status;
     if (sizeof(time_t) < sizeof at.seconds && (at.seconds < INT32_MIN || at.seconds > INT32_MAX)) {
@@ -46,15 +50,16 @@ MUXANDU_INLINE MuxanduStatus muxandu_timespec_from_timestamp(MuxanduTimestamp at
 #endif
 
 /* A part of a struct tm as a byte, and 255, which is no part, for another number. */
-MUXANDU_INLINE uint8_t muxandu_part_of_tm(int part) {
+MUXANDU_INLINE uint8_t muxandu_part_of_tm(int part) MUXANDU_NOEXCEPT {
     return part < 0 || part > 254 ? 255 : MUXANDU_CAST(uint8_t, part);
 }
 
 /* Returns the date-time of a struct tm, with a nanosecond and an offset, which it does not have.
  * The call does not read its days of the week and of the year or its tm_isdst. It fails as
  * muxandu_date_time_check does. */
+MUXANDU_NODISCARD
 MUXANDU_INLINE MuxanduStatus muxandu_date_time_from_tm(const struct tm *from, uint32_t nanosecond,
-                                                       int32_t offset_seconds, MuxanduDateTime *out) {
+                                                       int32_t offset_seconds, MuxanduDateTime *out) MUXANDU_NOEXCEPT {
     MuxanduDateTime at;
     MuxanduStatus status;
     at.year = from->tm_year > INT32_MAX - 1900 ? INT32_MAX : from->tm_year + 1900;
@@ -72,7 +77,8 @@ MUXANDU_INLINE MuxanduStatus muxandu_date_time_from_tm(const struct tm *from, ui
 
 /* The struct tm of what clocks show, with its days of the week and of the year; tm_isdst is -1,
  * since it is not known, and what else the struct has is 0. Refused as the date-time. */
-MUXANDU_INLINE MuxanduStatus muxandu_tm_from_date_time(MuxanduDateTime at, struct tm *out) {
+MUXANDU_NODISCARD
+MUXANDU_INLINE MuxanduStatus muxandu_tm_from_date_time(MuxanduDateTime at, struct tm *out) MUXANDU_NOEXCEPT {
     MuxanduDate date;
     MuxanduDateReads reads;
     MuxanduStatus status = muxandu_date_time_check(at);

@@ -219,3 +219,102 @@ export const MuxanduDateReads = {
         view.setUint8(place + 17, mondayBasedWeek);
     },
 };
+
+/** The instants at which the clocks of a time zone show a wall clock. There is one, or there are
+ * two in a fold, where clocks are put back over it. There is none in a gap, where clocks are put
+ * forward past it. Their Unix seconds may lie outside the range of timestamps by 93599. */
+export const MuxanduZoneInstants = {
+    get: (view, place) => ({
+        earlierSeconds: view.getBigInt64(place + 0, true),
+        laterSeconds: view.getBigInt64(place + 8, true),
+        gapSecond: view.getBigInt64(place + 16, true),
+        nanoseconds: view.getUint32(place + 24, true),
+        earlierOffsetSeconds: view.getInt32(place + 28, true),
+        laterOffsetSeconds: view.getInt32(place + 32, true),
+        count: view.getUint32(place + 36, true),
+    }),
+    put(view, place, { earlierSeconds, laterSeconds, gapSecond, nanoseconds, earlierOffsetSeconds, laterOffsetSeconds, count }) {
+        view.setBigInt64(place + 0, earlierSeconds, true);
+        view.setBigInt64(place + 8, laterSeconds, true);
+        view.setBigInt64(place + 16, gapSecond, true);
+        view.setUint32(place + 24, nanoseconds, true);
+        view.setInt32(place + 28, earlierOffsetSeconds, true);
+        view.setInt32(place + 32, laterOffsetSeconds, true);
+        view.setUint32(place + 36, count, true);
+    },
+};
+
+/** A transition of a time zone: its clocks go from one kind of local time to another. */
+export const MuxanduTransition = {
+    get: (view, place) => ({
+        second: view.getBigInt64(place + 0, true),
+        beforeOffsetSeconds: view.getInt32(place + 8, true),
+        afterOffsetSeconds: view.getInt32(place + 12, true),
+        beforeDesignation: view.getUint16(place + 16, true),
+        afterDesignation: view.getUint16(place + 18, true),
+        beforeIsDaylight: view.getUint8(place + 20),
+        afterIsDaylight: view.getUint8(place + 21),
+    }),
+    put(view, place, { second, beforeOffsetSeconds, afterOffsetSeconds, beforeDesignation, afterDesignation, beforeIsDaylight, afterIsDaylight }) {
+        view.setBigInt64(place + 0, second, true);
+        view.setInt32(place + 8, beforeOffsetSeconds, true);
+        view.setInt32(place + 12, afterOffsetSeconds, true);
+        view.setUint16(place + 16, beforeDesignation, true);
+        view.setUint16(place + 18, afterDesignation, true);
+        view.setUint8(place + 20, beforeIsDaylight);
+        view.setUint8(place + 21, afterIsDaylight);
+    },
+};
+
+/** A time zone, but for its transitions, which the caller keeps in an array of its own. Keep both
+ * as a call wrote them. */
+export const MuxanduZone = {
+    get: (view, place) => ({
+        offsetSeconds: view.getInt32(place + 0, true),
+        firstTime: view.getInt32(place + 4, true),
+        firstOffsetSeconds: view.getInt32(place + 8, true),
+        secondTime: view.getInt32(place + 12, true),
+        secondOffsetSeconds: view.getInt32(place + 16, true),
+        designation: view.getUint16(place + 20, true),
+        firstDay: view.getUint16(place + 22, true),
+        firstDesignation: view.getUint16(place + 24, true),
+        secondDay: view.getUint16(place + 26, true),
+        secondDesignation: view.getUint16(place + 28, true),
+        isDaylight: view.getUint8(place + 30),
+        hasRule: view.getUint8(place + 31),
+        firstKind: view.getUint8(place + 32),
+        firstMonth: view.getUint8(place + 33),
+        firstWeek: view.getUint8(place + 34),
+        firstWeekday: view.getUint8(place + 35),
+        firstIsDaylight: view.getUint8(place + 36),
+        secondKind: view.getUint8(place + 37),
+        secondMonth: view.getUint8(place + 38),
+        secondWeek: view.getUint8(place + 39),
+        secondWeekday: view.getUint8(place + 40),
+        secondIsDaylight: view.getUint8(place + 41),
+    }),
+    put(view, place, { offsetSeconds, firstTime, firstOffsetSeconds, secondTime, secondOffsetSeconds, designation, firstDay, firstDesignation, secondDay, secondDesignation, isDaylight, hasRule, firstKind, firstMonth, firstWeek, firstWeekday, firstIsDaylight, secondKind, secondMonth, secondWeek, secondWeekday, secondIsDaylight }) {
+        view.setInt32(place + 0, offsetSeconds, true);
+        view.setInt32(place + 4, firstTime, true);
+        view.setInt32(place + 8, firstOffsetSeconds, true);
+        view.setInt32(place + 12, secondTime, true);
+        view.setInt32(place + 16, secondOffsetSeconds, true);
+        view.setUint16(place + 20, designation, true);
+        view.setUint16(place + 22, firstDay, true);
+        view.setUint16(place + 24, firstDesignation, true);
+        view.setUint16(place + 26, secondDay, true);
+        view.setUint16(place + 28, secondDesignation, true);
+        view.setUint8(place + 30, isDaylight);
+        view.setUint8(place + 31, hasRule);
+        view.setUint8(place + 32, firstKind);
+        view.setUint8(place + 33, firstMonth);
+        view.setUint8(place + 34, firstWeek);
+        view.setUint8(place + 35, firstWeekday);
+        view.setUint8(place + 36, firstIsDaylight);
+        view.setUint8(place + 37, secondKind);
+        view.setUint8(place + 38, secondMonth);
+        view.setUint8(place + 39, secondWeek);
+        view.setUint8(place + 40, secondWeekday);
+        view.setUint8(place + 41, secondIsDaylight);
+    },
+};

@@ -1,23 +1,40 @@
 // The module of WebAssembly: how values lie in its memory, and how its calls are made. A struct is passed by its address,
 // and addresses and counts are BigInts.
 
-import { MuxanduDateTime, MuxanduDuration, MuxanduOrdinalDate, MuxanduTimestamp, MuxanduWeekDate } from "./layout.js";
+import {
+    MuxanduDate,
+    MuxanduDateTime,
+    MuxanduDuration,
+    MuxanduOrdinalDate,
+    MuxanduOutcome,
+    MuxanduTimestamp,
+    MuxanduWeekDate,
+} from "./layout.js";
 import { MODULE } from "./module.js";
-import { accept, refuse } from "./refused.js";
+import { accept, acceptOutcome, refuse } from "./refused.js";
 
 const bytes = Uint8Array.from(atob(MODULE), (character) => character.charCodeAt(0));
-const { module, instance } = await WebAssembly.instantiate(bytes, {});
+const module = new WebAssembly.Module(bytes);
+const instance = new WebAssembly.Instance(module, {});
 
 // Places in the memory that the calls do not use themselves, each of 64 bytes.
 const base = Number(instance.exports.__heap_base.value);
-const [FIRST, SECOND, OUT, SIZE] = [0, 64, 128, 192].map((at) => base + at);
-const TEXT = base + 256;
+export const [FIRST, SECOND, OUT, SIZE] = [0, 64, 128, 192].map((at) => base + at);
+/** Where a text lies. */
+export const TEXT = base + 256;
 const TEXT_ROOM = 64n;
 
 /** The bytes of the longest text that is read. */
-const MOST_BYTES = 250_000;
+export const MOST_BYTES = 250_000;
 
-let calls, memory, view, room;
+// The items of a description, behind the longest text, and their bytes.
+const ITEMS = TEXT + MOST_BYTES;
+const MOST_ITEMS = 128;
+const ITEM = 16;
+
+/** The calls of the instance that works, and its memory. */
+export let calls, memory, view;
+let room;
 
 function use(exports) {
     calls = exports;
@@ -32,23 +49,24 @@ use(instance.exports);
  * The same calls, with an instance of the module that works. If JavaScript's stack overflows within
  * a call, that call does not end, and the instance takes no other one.
  */
-function lasting(group) {
-    const lastingly = (call) => (one, other) => {
+export function lasting(group) {
+    const lastingly = (call) => (one, other, third) => {
         try {
-            return call(one, other);
+            return call(one, other, third);
         } catch (error) {
             if (!(error instanceof WebAssembly.RuntimeError)) throw error;
             use(new WebAssembly.Instance(module, {}).exports);
-            return call(one, other);
+            return call(one, other, third);
         }
     };
     return Object.fromEntries(Object.entries(group).map(([name, call]) => [name, lastingly(call)]));
 }
 
-const encoder = new TextEncoder();
-const decoder = new TextDecoder();
+export const encoder = new TextEncoder();
+export const decoder = new TextDecoder();
 
-const LEAST_SECOND = -(2n ** 63n);
+/** The least second of 64 bits, which is no second of an instant. */
+export const LEAST_SECOND = -(2n ** 63n);
 const MOST_SECOND = 2n ** 63n - 1n;
 /** The nanoseconds of a second. */
 export const BILLION = 1_000_000_000n;
@@ -98,16 +116,21 @@ function fitBits(value, name, least, most) {
     return value < least || value > most ? most : value;
 }
 
-const signed32 = (value, name) => fitBits(value, name, -(2 ** 31), 2 ** 31 - 1);
+export const signed32 = (value, name) => fitBits(value, name, -(2 ** 31), 2 ** 31 - 1);
 const unsigned32 = (value, name) => fitBits(value, name, 0, 2 ** 32 - 1);
 const unsigned8 = (value, name) => fitBits(value, name, 0, 255);
 
-function putTimestamp(place, { seconds, nanosecond }) {
-    const isHeld = seconds >= LEAST_SECOND && seconds <= MOST_SECOND;
-    MuxanduTimestamp.put(view, place, {
-        seconds: isHeld ? seconds : MOST_SECOND,
-        nanoseconds: unsigned32(nanosecond, "nanosecond"),
-    });
+/** The seconds of a count of nanoseconds, rounded down, and the nanoseconds past them. */
+export function splitNanoseconds(total) {
+    const past = ((total % BILLION) + BILLION) % BILLION;
+    return { seconds: (total - past) / BILLION, nanosecond: Number(past) };
+}
+
+/** A second of 64 bits. Any other becomes one that the library rejects. */
+export const fitSecond = (seconds) => (seconds >= LEAST_SECOND && seconds <= MOST_SECOND ? seconds : MOST_SECOND);
+
+export function putTimestamp(place, { seconds, nanosecond }) {
+    MuxanduTimestamp.put(view, place, { seconds: fitSecond(seconds), nanoseconds: unsigned32(nanosecond, "nanosecond") });
     return BigInt(place);
 }
 
@@ -116,7 +139,7 @@ function getTimestamp(place) {
     return { seconds, nanosecond: nanoseconds };
 }
 
-function putClocks(place, clocks) {
+export function putClocks(place, clocks) {
     MuxanduDateTime.put(view, place, {
         year: signed32(clocks.year, "year"),
         month: unsigned8(clocks.month, "month"),
@@ -130,9 +153,9 @@ function putClocks(place, clocks) {
     return BigInt(place);
 }
 
-const getClocks = (place) => MuxanduDateTime.get(view, place);
+export const getClocks = (place) => MuxanduDateTime.get(view, place);
 
-function putDuration(place, nanoseconds) {
+export function putDuration(place, nanoseconds) {
     const seconds = nanoseconds / BILLION;
     if (seconds < LEAST_SECOND || seconds > MOST_SECOND) refuse("DURATION");
     MuxanduDuration.put(view, place, { seconds, nanoseconds: Number(nanoseconds % BILLION) });
@@ -145,7 +168,7 @@ function getDuration(place) {
 }
 
 /** Writes a text to the memory, and returns its place and its size. */
-function putText(text) {
+export function putText(text) {
     const { read, written } = encoder.encodeInto(textual(text), room);
     if (read < text.length) refuse("LENGTH");
     return [BigInt(TEXT), BigInt(written)];
@@ -157,14 +180,15 @@ function textBy(call, place) {
     return decoder.decode(room.subarray(0, Number(view.getBigUint64(SIZE, true))));
 }
 
-const out = BigInt(OUT);
+/** Where a call writes what it makes. */
+export const out = BigInt(OUT);
 
-function getBy(status, get) {
+export function getBy(status, get) {
     accept(status);
     return get(OUT);
 }
 
-const getNumber = (place) => view.getInt32(place, true);
+export const getNumber = (place) => view.getInt32(place, true);
 
 /** The calls that timestamps and date-times have alike, by their kind in the names of the calls. */
 function alike(kind, put, get) {
@@ -225,9 +249,25 @@ export const clocks = lasting({
         const parts = getBy(calls.muxandu_date_time_from_rfc3339_leap(...putText(text), out, BigInt(SIZE)), getClocks);
         return { parts, isLeap: memory[SIZE] === 1 };
     },
+    readPlain: (text) => getBy(calls.muxandu_date_time_from_plain(...putText(text), out), getClocks),
     text: (at) => textBy(calls.muxandu_date_time_text, putClocks(FIRST, at)),
+    iso: (at) => textBy(calls.muxandu_date_time_to_iso, putClocks(FIRST, at)),
+    addMonths(at, months) {
+        MuxanduDate.put(view, FIRST, at);
+        const status = calls.muxandu_date_add_months(BigInt(FIRST), signed32(months, "months"), out);
+        return { ...at, ...getBy(status, (place) => MuxanduDate.get(view, place)) };
+    },
     day: (at) => getBy(calls.muxandu_date_time_day(putClocks(FIRST, at), out), getNumber),
 });
+
+/** The calls of date-times without an offset: theirs is 0, and their texts do not have it. */
+export const plainClocks = {
+    ...clocks,
+    checked: (at) => clocks.checked({ ...at, offsetSeconds: 0 }),
+    read: clocks.readPlain,
+    rfc3339: (at) => clocks.rfc3339(at).slice(0, -1),
+    text: (at) => clocks.iso(at).slice(0, -1),
+};
 
 /** The calls of days, by their numbers. */
 export const days = lasting({
@@ -240,4 +280,36 @@ export const days = lasting({
         const parts = [signed32(year, "year"), unsigned8(month, "month")];
         return getBy(calls.muxandu_days_in_month(...parts, out), (place) => memory[place]);
     },
+});
+
+/** The place of a byte in a text, as JavaScript counts. */
+const placeIn = (byte) => decoder.decode(room.subarray(0, byte)).length;
+
+/** Reads a text of a description by a call: the parts, and the number of bytes that it read. */
+function readBy(call, kind, items, text) {
+    const [place, size] = putText(text);
+    memory.set(items, ITEMS);
+    call(BigInt(SIZE), kind, BigInt(ITEMS), BigInt(items.length / ITEM), place, size, out);
+    const outcome = MuxanduOutcome.get(view, SIZE), end = Number(outcome.size);
+    acceptOutcome(outcome, placeIn(end));
+    return { parts: getClocks(OUT), rest: decoder.decode(room.subarray(end, Number(size))) };
+}
+
+/** The calls of descriptions, by the bytes of their items. */
+export const descriptions = lasting({
+    items(text) {
+        const [place, size] = putText(text);
+        calls.muxandu_description_parse(BigInt(SIZE), 2, place, size, BigInt(ITEMS), BigInt(MOST_ITEMS));
+        const outcome = MuxanduOutcome.get(view, SIZE), count = Number(outcome.size);
+        acceptOutcome(outcome, placeIn(count));
+        return memory.slice(ITEMS, ITEMS + count * ITEM);
+    },
+    write(items, kind, at) {
+        const place = putClocks(FIRST, at);
+        memory.set(items, ITEMS);
+        const call = (...words) => calls.muxandu_format_items(kind, BigInt(ITEMS), BigInt(items.length / ITEM), ...words);
+        return textBy(call, place);
+    },
+    read: (items, kind, text) => readBy(calls.muxandu_parse_items, kind, items, text),
+    readFront: (items, kind, text) => readBy(calls.muxandu_parse_items_front, kind, items, text),
 });

@@ -7,7 +7,7 @@ import { refuse } from "./refused.js";
 export const HELD = Symbol("parts");
 
 /** The number of a unit. */
-const unitNumber = (unit) => (typeof unit === "string" && Object.hasOwn(UNITS, unit) ? UNITS[unit] : refuse("UNIT"));
+export const unitNumber = (unit) => (typeof unit === "string" && Object.hasOwn(UNITS, unit) ? UNITS[unit] : refuse("UNIT"));
 
 /**
  * A class of the members that timestamps and date-times have alike.

@@ -1,30 +1,17 @@
-import { KNOWN, clocks, days, partNames, textual } from "./library.js";
-import { HELD, momentClass } from "./moment.js";
+import { clockClass } from "./clock.js";
+import { KNOWN, clocks, days, textual } from "./library.js";
+import { HELD } from "./moment.js";
+import { plainOf } from "./plain_date_time.js";
 import { Refused, refuse } from "./refused.js";
 import { Timestamp, timestampOf } from "./timestamp.js";
-
-const MIDNIGHT_IN_UTC = { hour: 0, minute: 0, second: 0, nanosecond: 0, offsetSeconds: 0 };
-const NAMES = { year: 0, month: 0, day: 0, ...MIDNIGHT_IN_UTC };
-
-/** The named parts over others. Other names throw. */
-function partsOver(others, parts) {
-    partNames(parts, NAMES, "date-time");
-    return { ...others, ...parts };
-}
 
 /** The date-time of parts that the library has given. */
 export const dateTimeOf = (parts) => new OffsetDateTime(KNOWN, parts);
 
+const MIDNIGHT_IN_UTC = { hour: 0, minute: 0, second: 0, nanosecond: 0, offsetSeconds: 0 };
+
 /** A date and a time of day at an offset from UTC. */
-export class OffsetDateTime extends momentClass(clocks, "an OffsetDateTime", dateTimeOf) {
-    constructor(parts, known) {
-        super(parts === KNOWN ? known : clocks.checked(partsOver(MIDNIGHT_IN_UTC, parts)));
-    }
-
-    static of(parts) {
-        return new OffsetDateTime(parts);
-    }
-
+export class OffsetDateTime extends clockClass(clocks, "an OffsetDateTime", dateTimeOf, MIDNIGHT_IN_UTC) {
     static parseLeap(text) {
         const { parts, isLeap } = clocks.readLeap(text);
         return { dateTime: dateTimeOf(parts), isLeap };
@@ -34,64 +21,20 @@ export class OffsetDateTime extends momentClass(clocks, "an OffsetDateTime", dat
         return Timestamp.fromDate(date).toOffset(offsetSeconds);
     }
 
-    get year() {
-        return this[HELD].year;
-    }
-
-    get month() {
-        return this[HELD].month;
-    }
-
-    get day() {
-        return this[HELD].day;
-    }
-
-    get hour() {
-        return this[HELD].hour;
-    }
-
-    get minute() {
-        return this[HELD].minute;
-    }
-
-    get second() {
-        return this[HELD].second;
-    }
-
-    get nanosecond() {
-        return this[HELD].nanosecond;
-    }
-
     get offsetSeconds() {
         return this[HELD].offsetSeconds;
     }
 
-    get dayNumber() {
-        return clocks.day(this[HELD]);
-    }
-
-    get dayOfYear() {
-        return days.ordinal(this.dayNumber);
-    }
-
-    get weekday() {
-        return days.week(this.dayNumber).weekday;
-    }
-
-    get isoWeek() {
-        return days.week(this.dayNumber).isoWeek;
-    }
-
-    get isoYear() {
-        return days.week(this.dayNumber).isoYear;
-    }
-
-    with(parts) {
-        return new OffsetDateTime(partsOver(this[HELD], parts));
-    }
-
     toOffset(offsetSeconds) {
         return dateTimeOf(clocks.toOffset(this[HELD], offsetSeconds));
+    }
+
+    toZone(zone) {
+        return this.toTimestamp().toZone(zone);
+    }
+
+    toPlainDateTime() {
+        return plainOf({ ...this[HELD], offsetSeconds: 0 });
     }
 
     toTimestamp() {

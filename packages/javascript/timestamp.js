@@ -1,7 +1,8 @@
-import { BILLION, KNOWN, refuseType, timestamps, toBigInt } from "./library.js";
+import { BILLION, KNOWN, refuseType, splitNanoseconds, timestamps, toBigInt } from "./library.js";
 import { HELD, momentClass } from "./moment.js";
 import { dateTimeOf } from "./offset_date_time.js";
 import { refuse } from "./refused.js";
+import { rulesOf, zones } from "./zone_calls.js";
 
 // The milliseconds that a Date holds, of either sign.
 const MOST_OF_DATE = 8_640_000_000_000_000n;
@@ -24,9 +25,8 @@ export class Timestamp extends momentClass(timestamps, "a Timestamp", timestampO
     }
 
     static fromNanoseconds(nanoseconds) {
-        const total = toBigInt(nanoseconds, "nanoseconds");
-        const past = ((total % BILLION) + BILLION) % BILLION;
-        return new Timestamp((total - past) / BILLION, Number(past));
+        const { seconds, nanosecond } = splitNanoseconds(toBigInt(nanoseconds, "nanoseconds"));
+        return new Timestamp(seconds, nanosecond);
     }
 
     static fromDate(date) {
@@ -61,6 +61,10 @@ export class Timestamp extends momentClass(timestamps, "a Timestamp", timestampO
 
     toOffset(offsetSeconds) {
         return dateTimeOf(timestamps.toClocks(this[HELD], offsetSeconds));
+    }
+
+    toZone(zone) {
+        return dateTimeOf(zones.toClocks(rulesOf(zone), this[HELD]));
     }
 
     toDate() {

@@ -49,8 +49,8 @@ static int compare_datums(Datum first, Datum second, SortSupport support) {
 }
 
 #if SIZEOF_DATUM >= 8
-/* The seconds of four-digit years take 39 bits, and 25 are left for the nanoseconds by 32. */
-enum { FRACTION_BITS = 25, NANOSECOND_SHIFT = 5 };
+/* The seconds of all years take 46 bits, and 18 are left for the nanoseconds by 4,096. */
+enum { FRACTION_BITS = 18, NANOSECOND_SHIFT = 12 };
 
 static Datum abbreviate(Datum original, SortSupport support) {
     const OffsetTimestamp *at = (const OffsetTimestamp *)DatumGetPointer(original);
@@ -58,7 +58,7 @@ static Datum abbreviate(Datum original, SortSupport support) {
     return Int64GetDatum(at->seconds * (INT64CONST(1) << FRACTION_BITS) + (at->nanoseconds >> NANOSECOND_SHIFT));
 }
 
-/* Keys differ wherever the instants are 32 nanoseconds apart, so they always pay. */
+/* Keys differ wherever the instants are 4,096 nanoseconds apart, so they always pay. */
 static bool abbreviate_abort(int count, SortSupport support) {
     (void)count;
     (void)support;

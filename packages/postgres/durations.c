@@ -2,7 +2,6 @@
 #include "durations.h"
 
 #include "common/hashfn.h"
-#include "duration_texts.h"
 #include "libpq/pqformat.h"
 #include "units.h"
 #include "utils/builtins.h"
@@ -27,18 +26,36 @@ ExactDuration *from_nanoseconds(int128 nanoseconds) {
     return from_duration(parts);
 }
 
+MuxanduStatus read_duration(const char *text, ExactDuration *duration) {
+    MuxanduDuration parts = {0, 0};
+    MuxanduStatus status = muxandu_duration_from_text(text, strlen(text), &parts);
+    duration->seconds = parts.seconds;
+    duration->nanoseconds = parts.nanoseconds;
+    return status;
+}
+
+bool has_months(const char *text) {
+    size_t fault = muxandu_duration_fault(text, strlen(text));
+    return strcspn(text, "0123456789") < fault && is_month_word(text + fault);
+}
+
+void write_duration(const ExactDuration *duration, char *text) {
+    size_t size;
+    require(muxandu_duration_text(duration_of(duration), text, DURATION_ROOM - 1, &size), DURATION_NAME);
+    text[size] = '\0';
+}
+
 FUNCTION(exact_duration_in) {
     const char *text = PG_GETARG_CSTRING(0);
-    int128 nanoseconds;
-    size_t fault;
-    MuxanduStatus status = read_duration(text, &nanoseconds, &fault);
+    ExactDuration *duration = palloc(sizeof *duration);
+    MuxanduStatus status = read_duration(text, duration);
     if (status != MUXANDU_OK) {
         const char *hint = has_months(text) ? MONTH_HINT : TEXT_HINT;
         Input input = {"type " DURATION_NAME, text, hint, (Node *)fcinfo->context};
-        refuse_text(&input, status, fault);
+        refuse_text(&input, status, muxandu_duration_fault(text, strlen(text)));
         PG_RETURN_NULL();
     }
-    PG_RETURN_POINTER(from_nanoseconds(nanoseconds));
+    PG_RETURN_POINTER(duration);
 }
 
 FUNCTION(exact_duration_out) {
@@ -119,6 +136,12 @@ FUNCTION(exact_duration_negative) {
     PG_RETURN_POINTER(from_nanoseconds(-nanoseconds_of(GET_DURATION(0))));
 }
 
+/* The duration without its sign. */
+FUNCTION(exact_duration_magnitude) {
+    int128 nanoseconds = nanoseconds_of(GET_DURATION(0));
+    PG_RETURN_POINTER(from_nanoseconds(nanoseconds < 0 ? -nanoseconds : nanoseconds));
+}
+
 /* The whole units of a duration: the rest, of either sign, is dropped. */
 FUNCTION(exact_duration_count) {
     const text *word = PG_GETARG_TEXT_PP(1);
@@ -131,10 +154,14 @@ FUNCTION(exact_duration_count) {
     PG_RETURN_INT64((int64)count);
 }
 
-/* A day has 86,400 seconds. Months have no fixed length, so they are an error. */
+/* A day has 86,400 seconds. Months have no fixed length, so they are an error. So is an infinity,
+ * which intervals have from version 17 on. */
 FUNCTION(exact_duration_from_interval) {
     const Interval *span = PG_GETARG_INTERVAL_P(0);
     int128 seconds_of_days = (int128)span->day * SECS_PER_DAY;
+#if PG_VERSION_NUM >= 170000
+    if (INTERVAL_NOT_FINITE(span)) refuse(MUXANDU_REFUSED_DURATION, DURATION_NAME);
+#endif
     if (span->month != 0)
         ereport(ERROR, (errcode(ERRCODE_DATETIME_FIELD_OVERFLOW), errmsg("%s out of range", DURATION_NAME),
                         errdetail("An interval of months or years has no fixed length."), errhint("%s", MONTH_HINT)));

@@ -4,6 +4,8 @@
 #include "common/hashfn.h"
 #include "utils/timestamp.h"
 
+static const char TIMESTAMPTZ_NAME[] = "timestamp with time zone";
+
 /* An infinity is out of range. */
 static MuxanduTimestamp instant_of_timestamptz(TimestampTz at) {
     if (TIMESTAMP_NOT_FINITE(at)) refuse(MUXANDU_REFUSED_TIMESTAMP, TIMESTAMP_NAME);
@@ -15,9 +17,11 @@ FUNCTION(offset_timestamp_from_timestamptz) {
     PG_RETURN_POINTER(at_offset(instant_of_timestamptz(PG_GETARG_TIMESTAMPTZ(0)), offset_seconds));
 }
 
+/* A timestamptz has the years from 4713 BC to 294276. An instant outside them is an error. */
 static TimestampTz round_down(const OffsetTimestamp *at) {
     int64 microseconds;
-    require(muxandu_timestamp_to_microseconds_2000(instant_of(at), &microseconds), TIMESTAMP_NAME);
+    MuxanduStatus status = muxandu_timestamp_to_microseconds_2000(instant_of(at), &microseconds);
+    if (status != MUXANDU_OK || !IS_VALID_TIMESTAMP(microseconds)) refuse(MUXANDU_REFUSED_RESULT, TIMESTAMPTZ_NAME);
     return microseconds;
 }
 
@@ -26,7 +30,7 @@ FUNCTION(offset_timestamp_to_timestamptz) {
     const OffsetTimestamp *at = GET_TIMESTAMP(0);
     TimestampTz rounded = round_down(at);
     if (muxandu_timestamp_compare(muxandu_timestamp_from_microseconds_2000(rounded), instant_of(at)) != 0)
-        refuse(MUXANDU_REFUSED_RESULT, "timestamp with time zone");
+        refuse(MUXANDU_REFUSED_RESULT, TIMESTAMPTZ_NAME);
     PG_RETURN_TIMESTAMPTZ(rounded);
 }
 

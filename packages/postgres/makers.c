@@ -29,7 +29,7 @@ FUNCTION(offset_timestamp_make) {
 }
 
 FUNCTION(offset_timestamp_make_text) {
-    return make(fcinfo, offset_in(PG_GETARG_TEXT_PP(6)));
+    return make(fcinfo, offset_in(PG_GETARG_TEXT_PP(6), OFFSET_HINT));
 }
 
 /* The time of the clock as it is now, also within a statement, at the offset 0. */

@@ -273,6 +273,8 @@ CREATE FUNCTION exact_duration_minus(exact_duration, exact_duration) RETURNS exa
     LANGUAGE C IMMUTABLE STRICT PARALLEL SAFE AS 'MODULE_PATHNAME', 'exact_duration_minus';
 CREATE FUNCTION exact_duration_negative(exact_duration) RETURNS exact_duration
     LANGUAGE C IMMUTABLE STRICT PARALLEL SAFE AS 'MODULE_PATHNAME', 'exact_duration_negative';
+CREATE FUNCTION magnitude(exact_duration) RETURNS exact_duration
+    LANGUAGE C IMMUTABLE STRICT PARALLEL SAFE AS 'MODULE_PATHNAME', 'exact_duration_magnitude';
 CREATE FUNCTION exact_duration_plus_timestamp(exact_duration, offset_timestamp) RETURNS offset_timestamp
     LANGUAGE C IMMUTABLE STRICT PARALLEL SAFE AS 'MODULE_PATHNAME', 'exact_duration_plus_timestamp';
 CREATE FUNCTION exact_duration_times(exact_duration, numeric) RETURNS exact_duration
@@ -315,8 +317,11 @@ CREATE FUNCTION add_months(offset_timestamp, integer) RETURNS offset_timestamp
     LANGUAGE C IMMUTABLE STRICT PARALLEL SAFE AS 'MODULE_PATHNAME', 'offset_timestamp_add_months';
 CREATE FUNCTION whole_units(exact_duration, text) RETURNS bigint
     LANGUAGE C IMMUTABLE STRICT PARALLEL SAFE AS 'MODULE_PATHNAME', 'exact_duration_count';
+CREATE FUNCTION offset_timestamp_series_support(internal) RETURNS internal
+    LANGUAGE C IMMUTABLE STRICT PARALLEL SAFE AS 'MODULE_PATHNAME', 'offset_timestamp_series_support';
 CREATE FUNCTION generate_series(offset_timestamp, offset_timestamp, exact_duration) RETURNS SETOF offset_timestamp
-    LANGUAGE C IMMUTABLE STRICT PARALLEL SAFE ROWS 1000 AS 'MODULE_PATHNAME', 'offset_timestamp_series';
+    LANGUAGE C IMMUTABLE STRICT PARALLEL SAFE ROWS 1000 SUPPORT offset_timestamp_series_support
+    AS 'MODULE_PATHNAME', 'offset_timestamp_series';
 CREATE FUNCTION date_bin(exact_duration, offset_timestamp, offset_timestamp) RETURNS offset_timestamp
     LANGUAGE C IMMUTABLE STRICT PARALLEL SAFE AS 'MODULE_PATHNAME', 'offset_timestamp_bin';
 CREATE FUNCTION in_range(offset_timestamp, offset_timestamp, exact_duration, boolean, boolean) RETURNS boolean
@@ -522,7 +527,30 @@ CREATE FUNCTION date_part(text, offset_timestamp) RETURNS bigint
     LANGUAGE C IMMUTABLE STRICT PARALLEL SAFE AS 'MODULE_PATHNAME', 'offset_timestamp_part';
 CREATE FUNCTION date_part(text, exact_duration) RETURNS numeric
     LANGUAGE C IMMUTABLE STRICT PARALLEL SAFE AS 'MODULE_PATHNAME', 'exact_duration_part';
+-- EXTRACT calls the function of this name in pg_catalog, from PostgreSQL 14 on.
+CREATE FUNCTION pg_catalog.extract(text, exact_duration) RETURNS numeric
+    LANGUAGE C IMMUTABLE STRICT PARALLEL SAFE AS 'MODULE_PATHNAME', 'exact_duration_part';
 CREATE FUNCTION offset_timestamp_refused(text) RETURNS text
     LANGUAGE C IMMUTABLE STRICT PARALLEL SAFE AS 'MODULE_PATHNAME', 'offset_timestamp_refused';
 CREATE FUNCTION offset_timestamp_or_null(text) RETURNS offset_timestamp
     LANGUAGE C IMMUTABLE STRICT PARALLEL SAFE AS 'MODULE_PATHNAME', 'offset_timestamp_or_null';
+
+-- Time zones, by the files of the server, which an upgrade of the machine may change
+CREATE FUNCTION at_zone(offset_timestamp, text) RETURNS offset_timestamp
+    LANGUAGE C STABLE STRICT PARALLEL SAFE AS 'MODULE_PATHNAME', 'offset_timestamp_at_zone';
+CREATE FUNCTION from_local(timestamp, text) RETURNS offset_timestamp
+    LANGUAGE C STABLE STRICT PARALLEL SAFE AS 'MODULE_PATHNAME', 'offset_timestamp_from_local';
+CREATE FUNCTION from_local(timestamp, text, text) RETURNS offset_timestamp
+    LANGUAGE C STABLE STRICT PARALLEL SAFE AS 'MODULE_PATHNAME', 'offset_timestamp_from_local';
+
+-- Texts of another form, by format descriptions
+CREATE FUNCTION offset_timestamp_format(offset_timestamp, text) RETURNS text
+    LANGUAGE C IMMUTABLE STRICT PARALLEL SAFE AS 'MODULE_PATHNAME', 'offset_timestamp_format';
+CREATE FUNCTION offset_timestamp_parse(text, text) RETURNS offset_timestamp
+    LANGUAGE C IMMUTABLE STRICT PARALLEL SAFE AS 'MODULE_PATHNAME', 'offset_timestamp_parse';
+CREATE FUNCTION offset_timestamp_parse(text, text, text) RETURNS offset_timestamp
+    LANGUAGE C IMMUTABLE STRICT PARALLEL SAFE AS 'MODULE_PATHNAME', 'offset_timestamp_parse';
+CREATE FUNCTION offset_timestamp_parse_or_null(text, text) RETURNS offset_timestamp
+    LANGUAGE C IMMUTABLE STRICT PARALLEL SAFE AS 'MODULE_PATHNAME', 'offset_timestamp_parse_or_null';
+CREATE FUNCTION offset_timestamp_parse_or_null(text, text, text) RETURNS offset_timestamp
+    LANGUAGE C IMMUTABLE STRICT PARALLEL SAFE AS 'MODULE_PATHNAME', 'offset_timestamp_parse_or_null';

@@ -1,7 +1,6 @@
 /* exact_duration as a number of seconds: numeric, products, quotients and means. */
 #include "durations.h"
 
-#include "duration_texts.h"
 #include "units.h"
 #include "utils/array.h"
 #include "utils/builtins.h"
@@ -10,11 +9,10 @@ static const char PART_HINT[] = "Name epoch, or use whole_units.";
 
 /* The nanoseconds that a text of a number says. */
 static int128 nanoseconds_in(const char *text, const char *type) {
-    int128 nanoseconds;
-    size_t fault;
-    MuxanduStatus status = read_duration(text, &nanoseconds, &fault);
+    ExactDuration duration;
+    MuxanduStatus status = read_duration(text, &duration);
     if (status != MUXANDU_OK) refuse(status == MUXANDU_REFUSED_SYNTAX ? MUXANDU_REFUSED_RESULT : status, type);
-    return nanoseconds;
+    return nanoseconds_of(&duration);
 }
 
 int128 nanoseconds_of_numeric(Datum seconds, const char *type) {

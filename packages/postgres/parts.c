@@ -54,8 +54,6 @@ static const char UNIT_HINT[] =
     "Name year, quarter, month, week, day, hour, minute, second, millisecond, microsecond or "
     "nanosecond.";
 
-static const char OFFSET_HINT[] = "Write an offset such as +02:00 or Z, or a number of seconds without quotes.";
-
 static const Part *part_named(const text *word) {
     const char *name = VARDATA_ANY(word);
     int size = (int)VARSIZE_ANY_EXHDR(word);
@@ -79,25 +77,40 @@ FUNCTION(offset_timestamp_at_offset) {
     PG_RETURN_POINTER(at_offset(instant_of(GET_TIMESTAMP(0)), PG_GETARG_INT32(1)));
 }
 
-int32 offset_in(const text *word) {
-    int32 seconds;
-    MuxanduStatus status = muxandu_offset_from_rfc3339(VARDATA_ANY(word), (size_t)VARSIZE_ANY_EXHDR(word), &seconds);
+/* Reads an offset as the texts of the type have it: that of RFC 3339, or one with seconds. */
+static MuxanduStatus read_offset(const char *text, int32 *seconds) {
+    MuxanduDateTime shown = {0};
+    MuxanduStatus status = muxandu_offset_from_rfc3339(text, strlen(text), seconds);
+    if (status == MUXANDU_OK || (text[0] != '+' && text[0] != '-')) return status;
+    text = psprintf("1970-01-01T00:00:00%s", text);
+    status = muxandu_date_time_from_iso(text, strlen(text), &shown);
+    *seconds = shown.offset_seconds;
+    return status;
+}
+
+int32 offset_in(const text *word, const char *hint) {
+    char *text = text_to_cstring(word);
+    int32 seconds = 0;
+    MuxanduStatus status = read_offset(text, &seconds);
     if (status != MUXANDU_OK) {
-        Input input = {"an offset", text_to_cstring(word), OFFSET_HINT, NULL};
+        Input input = {"an offset", text, hint, NULL};
         refuse_text(&input, status, NO_FAULT);
     }
+    pfree(text);
     return seconds;
 }
 
 FUNCTION(offset_timestamp_at_offset_text) {
-    PG_RETURN_POINTER(at_offset(instant_of(GET_TIMESTAMP(0)), offset_in(PG_GETARG_TEXT_PP(1))));
+    PG_RETURN_POINTER(at_offset(instant_of(GET_TIMESTAMP(0)), offset_in(PG_GETARG_TEXT_PP(1), OFFSET_HINT)));
 }
 
-/* The day that the clocks of a value show. */
+/* The day that the clocks of a value show. A date has no days before 4713 BC. */
 FUNCTION(offset_timestamp_local_date) {
     int32 day;
     require(muxandu_date_time_day(shown_by(GET_TIMESTAMP(0)), &day), TIMESTAMP_NAME);
-    PG_RETURN_DATEADT(day - (POSTGRES_EPOCH_JDATE - UNIX_EPOCH_JDATE));
+    day -= POSTGRES_EPOCH_JDATE - UNIX_EPOCH_JDATE;
+    if (!IS_VALID_DATE(day)) refuse(MUXANDU_REFUSED_RESULT, "date");
+    PG_RETURN_DATEADT(day);
 }
 
 /* The Monday of the week, which may lie in another month or year. */

@@ -2,6 +2,9 @@
 #include "durations.h"
 
 #include "funcapi.h"
+#include "nodes/nodeFuncs.h"
+#include "nodes/supportnodes.h"
+#include "optimizer/optimizer.h"
 
 /* The instant moved by a duration, at the offset that it had. */
 FUNCTION(offset_timestamp_plus) {
@@ -112,15 +115,14 @@ static bool has_next(const Series *series) {
     return !series->is_over && (is_back ? order >= 0 : order <= 0);
 }
 
-/* The value that is next, and then the series one step on. It is over where the next would have
- * no text. */
+/* The value that is next, and then the series one step on. It is over where the next would be
+ * out of range. */
 static OffsetTimestamp *take_next(Series *series) {
     OffsetTimestamp *value = from_parts(instant_of(&series->next), series->next.offset_seconds);
     MuxanduTimestamp sum;
     MuxanduDateTime shown;
     if (muxandu_timestamp_add(instant_of(value), series->step, &sum) != MUXANDU_OK ||
-        muxandu_date_time_from_timestamp(sum, value->offset_seconds, &shown) != MUXANDU_OK ||
-        muxandu_date_time_check_rfc3339(shown) != MUXANDU_OK) {
+        muxandu_date_time_from_timestamp(sum, value->offset_seconds, &shown) != MUXANDU_OK) {
         series->is_over = true;
         return value;
     }
@@ -141,4 +143,30 @@ FUNCTION(offset_timestamp_series) {
     call = SRF_PERCALL_SETUP();
     if (has_next(call->user_fctx)) SRF_RETURN_NEXT(call, PointerGetDatum(take_next(call->user_fctx)));
     SRF_RETURN_DONE(call);
+}
+
+/* The number of values of a series, or 0 where there is none. */
+static double values_of(const OffsetTimestamp *first, const OffsetTimestamp *last, const ExactDuration *step) {
+    int128 each = nanoseconds_of(step), whole;
+    MuxanduDuration apart;
+    require(muxandu_timestamp_difference(instant_of(last), instant_of(first), &apart), DURATION_NAME);
+    whole = nanoseconds_of(from_duration(apart));
+    if (each == 0 || (whole != 0 && (whole < 0) != (each < 0))) return 0;
+    return (double)(whole / each + 1);
+}
+
+/* Tells the planner how many values a series of known arguments has. */
+FUNCTION(offset_timestamp_series_support) {
+    SupportRequestRows *request = (SupportRequestRows *)PG_GETARG_POINTER(0);
+    const void *known[3];
+    ListCell *cell;
+    int count = 0;
+    if (!IsA(request, SupportRequestRows) || !is_funcclause(request->node)) PG_RETURN_POINTER(NULL);
+    foreach (cell, ((FuncExpr *)request->node)->args) {
+        Const *argument = (Const *)estimate_expression_value(request->root, lfirst(cell));
+        if (!IsA(argument, Const) || argument->constisnull) PG_RETURN_POINTER(NULL);
+        known[count++] = DatumGetPointer(argument->constvalue);
+    }
+    request->rows = values_of(known[0], known[1], known[2]);
+    PG_RETURN_POINTER(request);
 }

@@ -1,6 +1,5 @@
 /* The texts of offset_timestamp, its binary form, and the digits of its columns. */
-#include "duration_texts.h"
-#include "values.h"
+#include "durations.h"
 
 #include "catalog/pg_type.h"
 #include "libpq/pqformat.h"
@@ -24,10 +23,15 @@ static void keep_digits(OffsetTimestamp *at, int32 digits) {
 
 /* How to write what a text seems to be. */
 static const char *hint_of(const char *text) {
-    int128 nanoseconds;
-    size_t fault;
+    ExactDuration duration;
     if (has_months(text)) return MONTH_HINT;
-    return read_duration(text, &nanoseconds, &fault) == MUXANDU_OK ? DURATION_HINT : TEXT_HINT;
+    return read_duration(text, &duration) == MUXANDU_OK ? DURATION_HINT : TEXT_HINT;
+}
+
+/* The parts of a text, and its instant, which can be out of range where no part is. */
+static MuxanduStatus read_text(const char *text, size_t size, MuxanduDateTime *shown, MuxanduTimestamp *instant) {
+    MuxanduStatus status = muxandu_date_time_from_iso(text, size, shown);
+    return status == MUXANDU_OK ? muxandu_timestamp_from_date_time(*shown, instant) : status;
 }
 
 FUNCTION(offset_timestamp_in) {
@@ -36,13 +40,12 @@ FUNCTION(offset_timestamp_in) {
     MuxanduDateTime shown;
     MuxanduTimestamp instant;
     OffsetTimestamp *at;
-    MuxanduStatus status = muxandu_date_time_from_rfc3339(text, size, &shown);
+    MuxanduStatus status = read_text(text, size, &shown, &instant);
     if (status != MUXANDU_OK) {
         Input input = {"type " TIMESTAMP_NAME, text, hint_of(text), (Node *)fcinfo->context};
-        refuse_text(&input, status, status == MUXANDU_REFUSED_SYNTAX ? muxandu_rfc3339_fault(text, size) : 0);
+        refuse_text(&input, status, status == MUXANDU_REFUSED_SYNTAX ? muxandu_iso_fault(text, size) : 0);
         PG_RETURN_NULL();
     }
-    require(muxandu_timestamp_from_date_time(shown, &instant), TIMESTAMP_NAME);
     at = from_parts(instant, shown.offset_seconds);
     keep_digits(at, PG_GETARG_INT32(2));
     PG_RETURN_POINTER(at);
@@ -50,7 +53,7 @@ FUNCTION(offset_timestamp_in) {
 
 FUNCTION(offset_timestamp_out) {
     char *text = palloc(MUXANDU_TEXT_ROOM + 1);
-    require(muxandu_date_time_to_rfc3339_z(shown_by(GET_TIMESTAMP(0)), text, MUXANDU_TEXT_ROOM + 1), TIMESTAMP_NAME);
+    require(muxandu_date_time_to_iso_z(shown_by(GET_TIMESTAMP(0)), text, MUXANDU_TEXT_ROOM + 1), TIMESTAMP_NAME);
     PG_RETURN_CSTRING(text);
 }
 
@@ -120,7 +123,8 @@ FUNCTION(offset_timestamp_refused) {
     const text *word = PG_GETARG_TEXT_PP(0);
     char name[MUXANDU_STATUS_ROOM];
     MuxanduDateTime shown;
-    MuxanduStatus status = muxandu_date_time_from_rfc3339(VARDATA_ANY(word), (size_t)VARSIZE_ANY_EXHDR(word), &shown);
+    MuxanduTimestamp instant;
+    MuxanduStatus status = read_text(VARDATA_ANY(word), (size_t)VARSIZE_ANY_EXHDR(word), &shown, &instant);
     if (status == MUXANDU_OK) PG_RETURN_NULL();
     require(muxandu_status_name_z(status, name, sizeof name), TIMESTAMP_NAME);
     PG_RETURN_TEXT_P(cstring_to_text(name));
@@ -130,7 +134,7 @@ FUNCTION(offset_timestamp_refused) {
 FUNCTION(offset_timestamp_or_null) {
     const text *word = PG_GETARG_TEXT_PP(0);
     MuxanduDateTime shown;
-    if (muxandu_date_time_from_rfc3339(VARDATA_ANY(word), (size_t)VARSIZE_ANY_EXHDR(word), &shown) != MUXANDU_OK)
-        PG_RETURN_NULL();
-    PG_RETURN_POINTER(from_date_time(shown));
+    MuxanduTimestamp instant;
+    if (read_text(VARDATA_ANY(word), (size_t)VARSIZE_ANY_EXHDR(word), &shown, &instant) != MUXANDU_OK) PG_RETURN_NULL();
+    PG_RETURN_POINTER(from_parts(instant, shown.offset_seconds));
 }

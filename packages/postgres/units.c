@@ -14,6 +14,15 @@ bool is_named(const char *text, size_t size, const char *name) {
     return (size == length || is_plural) && pg_strncasecmp(text, name, length) == 0;
 }
 
+bool is_month_word(const char *text) {
+    static const char *const NAMES[] = {"month", "mon", "quarter", "year"};
+    size_t size = strspn(text, "abcdefghijklmnopqrstuvwxyzABCDEFGHIJKLMNOPQRSTUVWXYZ");
+    for (size_t at = 0; at < lengthof(NAMES); at++) {
+        if (is_named(text, size, NAMES[at])) return true;
+    }
+    return false;
+}
+
 const Unit *unit_named(const char *text, size_t size) {
     for (size_t at = 0; at < lengthof(UNITS); at++) {
         if (is_named(text, size, UNITS[at].name)) return &UNITS[at];

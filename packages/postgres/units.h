@@ -17,6 +17,9 @@ typedef struct Unit {
 /* Whether a text is that name, in the singular or the plural, in letters of any case. */
 bool is_named(const char *text, size_t size, const char *name);
 
+/* Whether a text begins with the name of a unit whose length is not fixed, such as months. */
+bool is_month_word(const char *text);
+
 /* The unit of that name, or NULL. */
 const Unit *unit_named(const char *text, size_t size);
 

@@ -11,14 +11,12 @@ OffsetTimestamp *from_parts(MuxanduTimestamp instant, int32 offset_seconds) {
 OffsetTimestamp *at_offset(MuxanduTimestamp instant, int32 offset_seconds) {
     MuxanduDateTime shown;
     require(muxandu_date_time_from_timestamp(instant, offset_seconds, &shown), TIMESTAMP_NAME);
-    require(muxandu_date_time_check_rfc3339(shown), TIMESTAMP_NAME);
     return from_parts(instant, offset_seconds);
 }
 
 OffsetTimestamp *from_date_time(MuxanduDateTime shown) {
     MuxanduTimestamp instant;
     require(muxandu_timestamp_from_date_time(shown, &instant), TIMESTAMP_NAME);
-    require(muxandu_date_time_check_rfc3339(shown), TIMESTAMP_NAME);
     return from_parts(instant, shown.offset_seconds);
 }
 

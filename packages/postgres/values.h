@@ -5,6 +5,9 @@
 #include "postgres.h"
 
 #include "fmgr.h"
+#if PG_VERSION_NUM >= 160000
+#include "varatt.h"
+#endif
 
 #include <muxandu.h>
 
@@ -15,8 +18,7 @@
     PG_FUNCTION_INFO_V1(name);                                                                                         \
     Datum name(PG_FUNCTION_ARGS)
 
-/* An instant, and the offset of the clocks that showed it. It has a text of RFC 3339. These 16
- * bytes are the form on disk. */
+/* An instant, and the offset of the clocks that showed it. These 16 bytes are the form on disk. */
 typedef struct OffsetTimestamp {
     int64 seconds;
     uint32 nanoseconds;
@@ -61,15 +63,17 @@ static inline MuxanduDateTime shown_by(const OffsetTimestamp *at) {
     return shown;
 }
 
-/* The values of an instant at an offset, and of a date-time. Where there is no text, it is an
- * error. */
+/* The values of an instant at an offset, and of a date-time. Where either is out of range, it is
+ * an error. */
 OffsetTimestamp *at_offset(MuxanduTimestamp instant, int32 offset_seconds);
 OffsetTimestamp *from_date_time(MuxanduDateTime shown);
 
-/* The seconds of an offset, such as +02:00. */
-int32 offset_in(const text *word);
+/* The seconds of an offset, such as +02:00. The hint says how to write one. */
+int32 offset_in(const text *word, const char *hint);
 
-/* The value of an instant and an offset that have a text. */
+#define OFFSET_HINT "Write an offset such as +02:00 or Z, or a number of seconds without quotes."
+
+/* The value of an instant and an offset whose clocks show a date-time of the range. */
 OffsetTimestamp *from_parts(MuxanduTimestamp instant, int32 offset_seconds);
 
 ExactDuration *from_duration(MuxanduDuration duration);

@@ -109,8 +109,9 @@ static int plan(sqlite3_vtab *table, sqlite3_index_info *info) {
     int places[ARGUMENTS] = {-1, -1}, are_unknown[ARGUMENTS] = {0, 0}, passed = 0;
     (void)table;
     for (int at = 0; at < info->nConstraint; at++) {
-        int argument = info->aConstraint[at].iColumn - PARTS;
-        if (argument < 0 || info->aConstraint[at].op != SQLITE_INDEX_CONSTRAINT_EQ) continue;
+        int argument = info->aConstraint[at].iColumn - PARTS, relation = info->aConstraint[at].op;
+        if (argument < 0) continue;
+        if (relation != SQLITE_INDEX_CONSTRAINT_EQ && relation != SQLITE_INDEX_CONSTRAINT_IS) continue;
         if (info->aConstraint[at].usable)
             places[argument] = at;
         else
@@ -130,7 +131,8 @@ static int plan(sqlite3_vtab *table, sqlite3_index_info *info) {
         info->aConstraintUsage[places[argument]].argvIndex = ++passed;
         info->aConstraintUsage[places[argument]].omit = 1;
     }
-    info->estimatedCost = 1;
+    /* A call takes as long as a scan of ten rows, so a plan makes it for few. */
+    info->estimatedCost = 10;
     info->estimatedRows = 1;
     info->idxFlags = SQLITE_INDEX_SCAN_UNIQUE;
     return SQLITE_OK;

@@ -56,4 +56,10 @@ static const Refusal REFUSALS[] = {
         {"OFFSET_MINUTE", "Minutes of an offset that are not -59 to 59."},
     [MUXANDU_REFUSED_NO_TEXT] =
         {"NO_TEXT", "A value that has no such text, as in RFC 3339 a year outside 0 to 9999, or an offset with seconds or beyond 23:59."},
+    [MUXANDU_REFUSED_ZONE] =
+        {"ZONE", "Numbers that are no time zone: a part is out of range, or a transition or the rule does not follow."},
+    [MUXANDU_REFUSED_GAP] =
+        {"GAP", "A wall clock that no instant has, since a time zone puts its clocks forward past it."},
+    [MUXANDU_REFUSED_FOLD] =
+        {"FOLD", "A wall clock that two instants have, since a time zone puts its clocks back over it."},
 };

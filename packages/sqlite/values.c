@@ -6,8 +6,6 @@ SQLITE_EXTENSION_INIT3
 
 #include "refusals.h"
 
-#define COUNT(items) (sizeof(items) / sizeof *(items))
-
 /* Doubles hold each whole number up to this one. */
 static const double MOST_EXACT = 9007199254740992.0;
 
@@ -40,6 +38,15 @@ uint32_t read_instant(sqlite3_value *value, MuxanduTimestamp *out) {
     return status == MUXANDU_OK ? muxandu_timestamp_from_rfc3339(text, size, out) : status;
 }
 
+uint32_t read_iso_instant(sqlite3_value *value, MuxanduTimestamp *out) {
+    const char *text;
+    size_t size;
+    MuxanduDateTime at;
+    uint32_t status = read_text(value, &text, &size);
+    if (status == MUXANDU_OK) status = muxandu_date_time_from_iso(text, size, &at);
+    return status == MUXANDU_OK ? muxandu_timestamp_from_date_time(at, out) : status;
+}
+
 /* Languages that have doubles alone bind whole numbers as such: they are taken where a double
  * holds them exactly. */
 uint32_t read_whole_number(sqlite3_value *value, int64_t *out) {
@@ -55,10 +62,15 @@ uint32_t read_whole_number(sqlite3_value *value, int64_t *out) {
     }
 }
 
-/* A number of more than 32 bits becomes one that the calls of the library reject. */
+/* An offset is a text such as +02:00, or a number of seconds. A number of more than 32 bits
+ * becomes one that the calls of the library reject. */
 uint32_t read_offset(sqlite3_value *value, int32_t *out) {
+    const char *text;
+    size_t size;
     int64_t number = 0;
-    uint32_t status = read_whole_number(value, &number);
+    int is_text = sqlite3_value_type(value) == SQLITE_TEXT;
+    uint32_t status = is_text ? read_text(value, &text, &size) : read_whole_number(value, &number);
+    if (is_text) return status == MUXANDU_OK ? muxandu_offset_from_rfc3339(text, size, out) : status;
     *out = number < INT32_MIN || number > INT32_MAX ? INT32_MAX : (int32_t)number;
     return status;
 }
@@ -93,13 +105,23 @@ uint32_t read_unit(sqlite3_value *value, const Unit **out) {
 static const Refusal *refusal_of(uint32_t status) {
     static const Refusal TYPE = {"TYPE",
                                  "An argument of the wrong type: pass a text, or an integer, as the call takes it."};
-    static const Refusal UNIT = {"UNIT",
-                                 "An unknown unit: pass 'nanosecond', 'microsecond', 'millisecond', 'second', "
-                                 "'minute', 'hour' or 'day', or 'month' or 'year' in muxandu_truncate; muxandu_unix "
-                                 "has none above a second."};
+    static const Refusal UNIT = {"UNIT", "An unknown unit: pass 'nanosecond', 'microsecond', 'millisecond', 'second', "
+                                         "'minute', 'hour' or 'day', or 'week', 'month', 'quarter' or 'year' in "
+                                         "muxandu_truncate; muxandu_unix has none above a second."};
+    static const Refusal STEP = {"STEP", "A step that is not above 0."};
+    static const Refusal ZONE = {"ZONE",
+                                 "An unknown time zone: pass the name of a file below /usr/share/zoneinfo, such "
+                                 "as 'Europe/Berlin'."};
+    static const Refusal ZONE_FILE = {"ZONE_FILE",
+                                      "A file that is no time zone of RFC 9636, or of one that counts leap seconds."};
+    static const Refusal CHOICE = {"CHOICE", "An unknown choice: pass 'compatible', 'earlier', 'later' or 'reject'."};
     static const Refusal UNKNOWN = {"UNKNOWN", "An error of a later library: build the extension with it."};
     if (status == REFUSED_TYPE) return &TYPE;
     if (status == REFUSED_UNIT_NAME) return &UNIT;
+    if (status == REFUSED_STEP) return &STEP;
+    if (status == REFUSED_ZONE_NAME) return &ZONE;
+    if (status == REFUSED_ZONE_FILE) return &ZONE_FILE;
+    if (status == REFUSED_CHOICE) return &CHOICE;
     return status < COUNT(REFUSALS) && REFUSALS[status].name != NULL ? &REFUSALS[status] : &UNKNOWN;
 }
 

@@ -5,8 +5,18 @@
 #include <muxandu.h>
 #include <sqlite3ext.h>
 
+#define COUNT(items) (sizeof(items) / sizeof *(items))
+
 /* Faults of SQL's values, in addition to the errors of muxandu.h. */
-enum { REFUSED_TYPE = 1000, REFUSED_UNIT_NAME = 1001, OUT_OF_MEMORY = 1002 };
+enum {
+    REFUSED_TYPE = 1000,
+    REFUSED_UNIT_NAME,
+    REFUSED_STEP,
+    REFUSED_ZONE_NAME,
+    REFUSED_ZONE_FILE,
+    REFUSED_CHOICE,
+    OUT_OF_MEMORY,
+};
 
 /* A unit of time: its number in the library, and its nanoseconds. */
 typedef struct Unit {
@@ -19,6 +29,7 @@ typedef struct Unit {
 uint32_t read_text(sqlite3_value *value, const char **text, size_t *size);
 uint32_t read_date_time(sqlite3_value *value, MuxanduDateTime *out);
 uint32_t read_instant(sqlite3_value *value, MuxanduTimestamp *out);
+uint32_t read_iso_instant(sqlite3_value *value, MuxanduTimestamp *out);
 uint32_t read_whole_number(sqlite3_value *value, int64_t *out);
 uint32_t read_offset(sqlite3_value *value, int32_t *out);
 uint32_t read_nanosecond(sqlite3_value *value, uint32_t *out);

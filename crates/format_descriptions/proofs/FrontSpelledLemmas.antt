@@ -1,6 +1,6 @@
 -- The front of a text that items read spells a choice of them.
-use Rattle.std.proofs.Common.{◌≡◌, ℕ, Bool, true, false, List, [], ◌∷◌, ◌++◌, length, refl, sym, ap, ◌∙◌, append_assoc}
-use Rattle.std.specs.Prelude.{IsTrue, Option, Some, None, Result, Ok, Err}
+use Rattle.std.proofs.Common.{◌≡◌, ℕ, false, List, [], ◌∷◌, ◌++◌, length, refl, sym, ap, ◌∙◌, append_assoc}
+use Rattle.std.specs.Prelude.{IsTrue, None, Ok}
 use Rattle.rfc3339.specs.FormLemmas.{bind_some, mark_takes}
 use Rattle.format_descriptions.specs.Choices.{IsChoice}
 use Rattle.format_descriptions.specs.Groups.{has_no_group}

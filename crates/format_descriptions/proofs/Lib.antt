@@ -5,6 +5,7 @@ mod LikelyNameLemmas
 mod GroupLemmas
 mod CutLemmas
 mod KindLemmas
+mod LengthLemmas
 mod ItemLemmas
 mod ReadLemmas
 mod UsualLemmas
@@ -21,9 +22,6 @@ mod ValueLawLemmas
 pub mod InstantBounds
 mod InstantLemmas
 mod DateTimeLemmas
-mod CaseLemmas
-mod DirectLemmas
-mod DirectValueLemmas
 mod SpelledDigitLemmas
 mod SpelledWidthLemmas
 mod SpelledNumeralLemmas
@@ -41,6 +39,7 @@ mod WrittenChoiceLemmas
 mod BeginLemmas
 mod SeparateLemmas
 mod PartKeptLemmas
+mod KeptPartLemmas
 mod GivenLemmas
 mod PlaceLemmas
 mod DecimalLemmas
@@ -50,3 +49,6 @@ mod DescriptionAgainLemmas
 mod SourceLemmas
 pub mod SplitLemmas
 mod PutLemmas
+mod MailLemmas
+mod MailAgainLemmas
+mod MailValueLemmas

@@ -33,7 +33,7 @@ abbrev pub plain_put : DescriptionVersion → ℕ → ℕ → ℕ → Bool → I
 plain_put v room left depth several item text =
     and_then (with_piece room left text (end_of_several several item)) (λ ended. with_source room left ended (plain_source v (nat_lt 0 depth) item))
 
-plain_step : (v : DescriptionVersion) (room depth : ℕ) (several : Bool) (item : Item) (others items : List Item) (count more : ℕ) (text : List ℕ)
+pub plain_step : (v : DescriptionVersion) (room depth : ℕ) (several : Bool) (item : Item) (others items : List Item) (count more : ℕ) (text : List ℕ)
     (all : Result (List ℕ) SourceFault)
     → items ≡ item ∷ others → count ≡ suc more → None ≡ size_of item → source_from v room depth several items 0 count text ≡ all
     → and_then (plain_put v room (length items) depth several item text) (λ longer. source_from v room depth false others 0 more longer) ≡ all

@@ -1,8 +1,8 @@
 -- What a clear description writes is read back, component by component.
 use Rattle.std.proofs.Common.{◌≡◌, ℕ, ◌*◌, ◌/◌, ◌%◌, ◌<◌, Bool, true, false, List, [], ◌∷◌, ◌++◌, refl, append_assoc}
 use Rattle.std.proofs.Common.{arith, ℤ, pos, ◌≤ℤ◌, unsigned_abs, Some, None, Ok}
-use Rattle.std.proofs.Common.{inl, inr, nat_lt, sym, ap, ◌∙◌}
-use Rattle.std.specs.Prelude.{Result, IsTrue, int_lt, not, ◌||◌, ◌&&◌, ◌==◌}
+use Rattle.std.proofs.Common.{inl, inr, nat_lt}
+use Rattle.std.specs.Prelude.{IsTrue, int_lt, not, ◌||◌, ◌&&◌, ◌==◌}
 use Rattle.std.specs.Char.{is_ascii_digit}
 use Rattle.std.proofs.lemmas.Bool.{and_parts, or_cases, cases_Bool}
 use Rattle.std.proofs.lemmas.Bool.Decides.{nat_tests}
@@ -21,7 +21,7 @@ use Rattle.rfc3339.specs.FormLemmas.{mark_again}
 use Rattle.rfc3339.specs.Reading.{digit_at}
 use Rattle.format_descriptions.specs.Modifiers.{is_padded, is_mandatory, is_extended, digit_count}
 use Rattle.format_descriptions.specs.Groups.{written_items}
-use Rattle.format_descriptions.specs.Read.{items_at, item_at, component_at, with_part, no_parts}
+use Rattle.format_descriptions.specs.Read.{items_at, item_at, component_at, with_part}
 use Rattle.format_descriptions.specs.Reading.{fraction_at, sign_at, six_at, signed_year_at, signed_century_at, signed_hours_at}
 use Rattle.format_descriptions.specs.RoundTrips.{takes_digits, is_whole, begins_apart, starts_apart, are_clear, is_clear, number_of, flat_parts}
 use Rattle.format_descriptions.specs.RoundTrips.{parts_of, AreParts, AreWritten}
@@ -33,7 +33,7 @@ use Rattle.format_descriptions.proofs.GroupLemmas.{flat_at, items_at-written}
 use Rattle.format_descriptions.proofs.NameAgainLemmas.{month-again, weekday-again, period-again, no_digit-month, no_digit-weekday, no_digit-period}
 use Rattle.format_descriptions.proofs.NumberAgainLemmas.{two-again, three-again, four-again, more-again, nine-again, all-again, six_digits-again}
 use Rattle.format_descriptions.proofs.NumberAgainLemmas.{weekday_number-again, no_sign-two, no_sign-four_text}
-use Rattle.format_descriptions.proofs.PartLemmas.{agrees-same, AreParts-next, AreParts-none}
+use Rattle.format_descriptions.proofs.PartLemmas.{agrees-same, AreParts-next}
 use Rattle.format_descriptions.specs.declared.component.Component.{Component}
 use Rattle.format_descriptions.specs.declared.component.Component.TheVariants.{Year, YearCentury, YearLastTwo, Month, MonthName, Day, Ordinal}
 use Rattle.format_descriptions.specs.declared.component.Component.TheVariants.{WeekdayName, WeekdayNumber, WeekNumber, Hour, Hour12, Period, Minute}
@@ -175,7 +175,7 @@ unfolding hour_12
 hour_12-bound hour = grind (arith, nat_tests)
 
 -- a component, and no digit behind one that takes all digits
-component-again : (c : Component) (day : ℤ) (clock : ℕ) (o : ℤ) (rest : List ℕ) → IsTrue (is_whole c)
+pub component-again : (c : Component) (day : ℤ) (clock : ℕ) (o : ℤ) (rest : List ℕ) → IsTrue (is_whole c)
     → (IsTrue (takes_digits c) → digit_at rest ≡ None) → AreWritten day clock o
     → component_at c (component_text c day clock o ++ rest) ≡ Some (number_of c day clock o, rest)
 unfolding component_at component_text
@@ -368,19 +368,3 @@ AreParts-of (Part c ∷ items) day clock o p a = AreParts-of items day clock o (
 pub written-again : (items : List Item) (day : ℤ) (clock : ℕ) (o : ℤ) (p : Parts) → IsTrue (is_clear items) → AreWritten day clock o → AreParts p day clock o
     → items_at items (items_text items day clock o) p ≡ Ok (parts_of items day clock o p)
 written-again items day clock o p h w a = items_at-written items _ p _ (items-again (written_items items) day clock o p h w a)
-
--- a reading of parts
-abbrev same_ok : Parts → Result Parts ℕ
-same_ok p = Ok p
-
-ok-same : (a b : Parts) → same_ok a ≡ same_ok b → a ≡ b
-ok-same a b e = cc
-
--- one text has one reading
-pub parts_of-unique : (items : List Item) (day other : ℤ) (clock later : ℕ) (o p : ℤ) → IsTrue (is_clear items) → AreWritten day clock o
-    → AreWritten other later p → items_text items day clock o ≡ items_text items other later p
-    → parts_of items day clock o no_parts ≡ parts_of items other later p no_parts
-parts_of-unique items day other clock later o p h w v e =
-    let first = written-again items day clock o no_parts h w (AreParts-none day clock o) in
-    let second = written-again items other later p no_parts h v (AreParts-none other later p) in
-    ok-same _ _ (sym first ∙ ap (λ (text : List ℕ). items_at items text no_parts) e ∙ second)

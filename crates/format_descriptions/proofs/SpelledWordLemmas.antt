@@ -1,5 +1,5 @@
 -- Words and names: those that are read are spelled, in their case or in any, and those that are spelled are read.
-use Rattle.std.proofs.Common.{◌≡◌, ◌∙◌, ℕ, zero, suc, ◌<◌, ◌≤◌, Bool, true, false, List, [], ◌∷◌, ◌++◌}
+use Rattle.std.proofs.Common.{◌≡◌, ◌∙◌, ℕ, zero, suc, ◌<◌, ◌≤◌, Bool, true, false, List, [], ◌∷◌, ◌++◌, ◌==◌}
 use Rattle.std.proofs.Common.{Option, Some, None, refl, sym, ap, inl, inr, nat_eq, arith}
 use Rattle.std.specs.Char.{is_ascii_digit, to_ascii_lowercase}
 use Rattle.std.specs.Option.{option_map}
@@ -8,7 +8,7 @@ use Rattle.std.specs.Str.{str_to_ascii_lowercase}
 use Rattle.std.proofs.lemmas.Bool.{cases_Bool, eqb-true}
 use Rattle.std.proofs.lemmas.Bool.Decides.{nat_tests}
 use Rattle.std.proofs.lemmas.List.{map-append}
-use Rattle.rfc3339.specs.Reading.{digit_at}
+use Rattle.rfc3339.specs.Reading.{◌>>=◌, digit_at}
 use Rattle.format_descriptions.specs.Names.{name_of_month, name_of_weekday}
 use Rattle.format_descriptions.specs.Reading.{is_letter, letter_at, word_at, named, half_of, month_at, weekday_at, period_at}
 use Rattle.format_descriptions.specs.SpelledPieces.{IsWord, first_hour}
@@ -17,13 +17,33 @@ use Rattle.format_descriptions.specs.declared.modifiers.Case.{Case}
 use Rattle.format_descriptions.specs.declared.modifiers.NameForm.{NameForm}
 use Rattle.format_descriptions.specs.declared.modifiers.ReadCase.{ReadCase}
 use Rattle.format_descriptions.specs.declared.modifiers.ReadCase.TheVariants.{Same, Any}
-use Rattle.format_descriptions.proofs.CaseLemmas.{word-spelled}
 use Rattle.format_descriptions.proofs.NameReadLemmas.{month-named, weekday-named}
 use Rattle.format_descriptions.proofs.NameAgainLemmas.{month-again, weekday-again, period-again, no_digit-month, no_digit-weekday}
 use Rattle.format_descriptions.proofs.NameAgainLemmas.{no_digit-period}
 use Rattle.format_descriptions.proofs.SpelledDigitLemmas.{Piece, no_digit-seen}
 
 -- ---- words
+
+-- a letter in its case is at the front of the text, and so is a word
+letter-spelled : (letter : ℕ) (text rest : List ℕ) → letter_at Same letter text ≡ Some rest → text ≡ letter ∷ rest
+unfolding letter_at
+letter-spelled letter [] rest h = absurd cc
+letter-spelled letter (first ∷ text) rest h = elim (cases_Bool (first == letter)) [
+  | inl t ↦
+      let same : first ≡ letter = grind (arith, nat_tests, t) in
+      let behind : text ≡ rest = let e = rw t at h in cc in rw (same, behind) refl
+  | inr f ↦ let e = rw f at h in absurd cc
+]
+
+word-on : (letter : ℕ) (word text rest : List ℕ) (o : Option (List ℕ)) → letter_at Same letter text ≡ o
+    → ((t r : List ℕ) → word_at Same word t ≡ Some r → t ≡ word ++ r) → (o >>= λ more. word_at Same word more) ≡ Some rest → text ≡ letter ∷ word ++ rest
+word-on letter word text rest None e others h = absurd cc
+word-on letter word text rest (Some more) e others h = rw (letter-spelled letter text more e, others more rest h) refl
+
+word-spelled : (word text rest : List ℕ) → word_at Same word text ≡ Some rest → text ≡ word ++ rest
+unfolding word_at
+word-spelled [] text rest h = cc
+word-spelled (letter ∷ word) text rest h = word-on letter word text rest (letter_at Same letter text) refl (λ t r e. word-spelled word t r e) h
 
 any_word-taken : (word text rest : List ℕ) → word_at Any word text ≡ Some rest → Piece (IsWord Any word) text rest
 unfolding word_at letter_at

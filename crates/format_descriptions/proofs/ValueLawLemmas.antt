@@ -13,7 +13,7 @@ use Rattle.format_descriptions.proofs.ClockLemmas.{time_of_parts-only}
 use Rattle.format_descriptions.proofs.DateLemmas.{date_of_parts-only, known-number}
 use Rattle.format_descriptions.proofs.OffsetLemmas.{offset_of_parts-only}
 
-HasDateParts-of : (p : Parts) (day : ℤ) (clock : ℕ) (o : ℤ) → AreParts p day clock o → HasDateParts p day
+pub HasDateParts-of : (p : Parts) (day : ℤ) (clock : ℕ) (o : ℤ) → AreParts p day clock o → HasDateParts p day
 HasDateParts-of p day clock o a = record {
   year = record { whole = a.year; hundreds = a.year_century; sign = a.is_before_zero; last = a.year_last_two };
   iso_year = record { whole = a.iso_year; hundreds = a.iso_year_century; sign = a.is_iso_before_zero; last = a.iso_year_last_two };

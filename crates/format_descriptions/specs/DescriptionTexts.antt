@@ -176,6 +176,11 @@ source_from version room depth several (item ∷ items) zero (suc count) text =
     source_by version room (length (item ∷ items)) depth several item count
     (λ d s skip n before. source_from version room d s items skip n before) ended (size_of item))
 
+-- the length of a text, or the fault
+abbrev pub source_length : Result (List ℕ) SourceFault → Result ℕ SourceFault
+source_length (Ok text) = Ok (length text)
+source_length (Err fault) = Err fault
+
 -- the text of a description in a room of this size, or the first fault
 abbrev pub description_source : DescriptionVersion → ℕ → List Item → Result (List ℕ) SourceFault
 description_source version room items = source_from version room 0 false items 0 (length items) []

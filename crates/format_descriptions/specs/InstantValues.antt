@@ -1,6 +1,6 @@
 -- The instant that the Unix timestamps of parts name: each count that is known is that of it.
-use Rattle.std.specs.Prelude.{◌≡◌, ℕ, if◌then◌else◌, codes, ℤ, pos, negsuc, ◌+ℤ◌, ◌*ℤ◌}
-use Rattle.std.specs.Prelude.{IfSome, Option, Some, None, Result, Ok, Err, is_some}
+use Rattle.std.specs.Prelude.{◌≡◌, ℕ, if◌then◌else◌, codes, ℤ, pos, negsuc, ◌+ℤ◌, ◌*ℤ◌, ◌%◌}
+use Rattle.std.specs.Prelude.{Bool, IfSome, Option, Some, None, Result, Ok, Err, is_some, ◌&&◌, ◌||◌}
 use Rattle.calendar_values.specs.Clock.{nanos_per_second, nanos_per_millisecond, nanos_per_microsecond}
 use Rattle.calendar_values.specs.Range.{is_outside}
 use Rattle.calendar_values.specs.Refusals.{Refusal}
@@ -25,6 +25,11 @@ pub record HasInstantParts (p : Parts) (i : ℤ) : Type 0 where
   pub microsecond : IfSome p.unix_microsecond (λ known. known ≡ unix_microseconds_of i)
   pub nanosecond : IfSome p.unix_nanosecond (λ known. known ≡ i)
   pub subsecond : IfSome p.nanosecond (λ known. known ≡ unix_nanosecond_of i)
+
+-- the parts tell one instant: by a count of nanoseconds, or by another count and the nanosecond of the second
+abbrev pub tells_instant : Parts → Bool
+tells_instant p =
+    is_some p.unix_nanosecond || ((is_some p.unix_microsecond || (is_some p.unix_millisecond || is_some p.unix_second)) && is_some p.nanosecond)
 
 -- a count that is 0 where it is not known
 abbrev pub or_no_count : Option ℤ → ℤ
@@ -65,7 +70,7 @@ counted_instant p wrong precision more n =
 unfoldable pub instant_of_counts : Parts → Result ℤ ValueRefusal
 instant_of_counts p =
     if is_some p.unix_nanosecond then counted_instant p UnixNanosecond Nanoseconds 0 (or_no_count p.unix_nanosecond)
-    else (if is_some p.unix_microsecond then counted_instant p UnixMicrosecond Microseconds 0 (or_no_count p.unix_microsecond)
-    else (if is_some p.unix_millisecond then counted_instant p UnixMillisecond Milliseconds 0 (or_no_count p.unix_millisecond)
+    else (if is_some p.unix_microsecond then counted_instant p UnixMicrosecond Microseconds (or_zero p.nanosecond % 1_000) (or_no_count p.unix_microsecond)
+    else (if is_some p.unix_millisecond then counted_instant p UnixMillisecond Milliseconds (or_zero p.nanosecond % 1_000_000) (or_no_count p.unix_millisecond)
     else (if is_some p.unix_second then counted_instant p UnixSecond Seconds (or_zero p.nanosecond) (or_no_count p.unix_second)
     else Err (Missing UnixSecond))))

@@ -234,9 +234,3 @@ pub record ReadsBack (items : List Item) (day : ℤ) (clock : ℕ) (o : ℤ) : T
 abbrev pub WrittenTextsReadBack : Type 0
 WrittenTextsReadBack =
     (items : List Item) (day : ℤ) (clock : ℕ) (o : ℤ) → IsTrue (is_clear items) → AreWritten day clock o → ReadsBack items day clock o
-
--- a text that a clear description writes of two values has one reading: it writes the same parts of both
-abbrev pub EqualTextsHaveEqualParts : Type 0
-EqualTextsHaveEqualParts =
-    (items : List Item) (day other : ℤ) (clock later : ℕ) (o p : ℤ) → IsTrue (is_clear items) → AreWritten day clock o → AreWritten other later p
-    → items_text items day clock o ≡ items_text items other later p → parts_of items day clock o no_parts ≡ parts_of items other later p no_parts

@@ -1,5 +1,5 @@
 -- The text of a description has at most 80 bytes for each item, and one more: where a room has these, its size is of no account.
-use Rattle.std.proofs.Common.{◌≡◌, ℕ, zero, suc, ◌+◌, ◌-◌, ◌*◌, ◌<◌, ◌≤◌, ◌^◌, ◌==◌, ◌||◌, Bool, true, false, List, [], ◌∷◌, ◌++◌, length, codes, decimal}
+use Rattle.std.proofs.Common.{◌≡◌, ℕ, zero, suc, ◌+◌, ◌-◌, ◌*◌, ◌<◌, ◌≤◌, ◌==◌, ◌||◌, Bool, true, false, List, [], ◌∷◌, ◌++◌, length, codes, decimal}
 use Rattle.std.proofs.Common.{refl, arith, inl, inr, lit≤}
 use Rattle.std.specs.Prelude.{Option, Some, None, Result, Ok, Err, IfOk, nat_lt, if◌then◌else◌}
 use Rattle.std.proofs.lemmas.Bool.{cases_Bool}
@@ -25,7 +25,6 @@ use Rattle.format_descriptions.specs.declared.description_steps.DescriptionVersi
 use Rattle.format_descriptions.specs.declared.item.Item.{Item}
 use Rattle.format_descriptions.specs.declared.item.Item.TheVariants.{Byte, Part, Optional, First, Or}
 use Rattle.format_descriptions.specs.declared.item_refusal.ItemFault.{ItemFault}
-use Rattle.format_descriptions.specs.declared.item_refusal.ItemFault.TheVariants.{NoName, NoCount, NoEscape, NoFirst, PastEnd, TooDeep, NoRoom}
 use Rattle.format_descriptions.specs.declared.modifiers.Padding.{Padding}
 use Rattle.format_descriptions.specs.declared.modifiers.Padding.TheVariants.{Zero, Space, Bare}
 use Rattle.format_descriptions.specs.declared.modifiers.Sign.{Sign}
@@ -343,7 +342,9 @@ items_short v r s (item ∷ items) depth several zero (suc count) text in_r in_s
     (λ ended few. item_short v r s (length (item ∷ items)) depth (length text + (80 * suc count + 1)) several item count _ _ ended (size_of item)
     (λ d other skip n before r_has s_has. items_short v r s items d other skip n before r_has s_has) (omega (arith, few)) in_r in_s)
 
--- a description has the same text, or the same fault, in each room of 80 bytes for each item and one more
-pub description_source-enough : (v : DescriptionVersion) (r s : ℕ) (items : List Item) → 80 * length items + 1 ≤ r → 80 * length items + 1 ≤ s
-    → description_source v r items ≡ description_source v s items
-description_source-enough v r s items in_r in_s = (items_short v r s items 0 false 0 (length items) [] (omega (arith, in_r)) (omega (arith, in_s))).0
+-- a text has at most 80 bytes for each item and one more, in a room that has a place for them
+pub length-description_source : (v : DescriptionVersion) (room : ℕ) (items : List Item) → 80 * length items + 1 ≤ room
+    → IfOk (description_source v room items) (λ text. length text ≤ 80 * length items + 1)
+length-description_source v room items enough =
+    let most : 0 + (80 * length items + 1) ≡ 80 * length items + 1 = omega arith in
+    rw most at (items_short v room room items 0 false 0 (length items) [] (omega (arith, enough)) (omega (arith, enough))).1

@@ -7,36 +7,23 @@ use Rattle.format_descriptions.specs.Iso8601.{iso8601_items, iso8601_date_items,
 use Rattle.format_descriptions.specs.Known.{date_items, time_items, offset_items, fixed_items, fixed_items_at}
 use Rattle.format_descriptions.specs.RoundTrips.{is_clear}
 use Rattle.format_descriptions.specs.declared.item.Item.{Item}
-use Rattle.format_descriptions.specs.declared.item.Item.TheVariants.{Byte, Part, Optional, First, Or}
-use Rattle.format_descriptions.specs.declared.component.Component.TheVariants.{Year, Month, MonthName, Day, WeekdayName}
-use Rattle.format_descriptions.specs.declared.component.Component.TheVariants.{Hour, Minute, Second, Subsecond, OffsetHour, OffsetMinute, OffsetWord}
+use Rattle.format_descriptions.specs.declared.item.Item.TheVariants.{Byte, Part}
+use Rattle.format_descriptions.specs.declared.component.Component.TheVariants.{Year, MonthName, Day, WeekdayName}
+use Rattle.format_descriptions.specs.declared.component.Component.TheVariants.{Hour, Minute, Second, OffsetHour, OffsetMinute}
 use Rattle.format_descriptions.specs.declared.modifiers.NameForm.TheVariants.{Short}
-use Rattle.format_descriptions.specs.declared.modifiers.Padding.TheVariants.{Zero, Bare}
+use Rattle.format_descriptions.specs.declared.modifiers.Padding.TheVariants.{Zero}
 use Rattle.format_descriptions.specs.declared.modifiers.ReadCase.TheVariants.{Any}
 use Rattle.format_descriptions.specs.declared.modifiers.Sign.TheVariants.{Automatic, Mandatory}
-use Rattle.format_descriptions.specs.declared.modifiers.SubsecondDigits.TheVariants.{OneOrMore}
-use Rattle.format_descriptions.specs.declared.modifiers.UtcWord.TheVariants.{Utc, Gmt, Zulu}
 use Rattle.format_descriptions.specs.declared.modifiers.YearBase.TheVariants.{Calendar}
 use Rattle.format_descriptions.specs.declared.modifiers.YearRange.TheVariants.{Standard}
 
--- RFC 2822: `[optional [[weekday repr:short], ]][first [[day]] [[day padding:none]]] [month repr:short] [year] [hour]:[minute]`,
--- `[optional [:[second]]] `, and then `[offset_hour sign:mandatory][offset_minute]` or a word for UTC
+-- RFC 2822 as it is written: `[weekday repr:short], [day] [month repr:short] [year] [hour]:[minute]:[second]`, a space, and then
+-- `[offset_hour sign:mandatory][offset_minute]`
 abbrev pub rfc2822_items : List Item
 rfc2822_items =
-    Optional 3 ∷ Part (WeekdayName Short Any) ∷ Byte 44 ∷ Byte 32 ∷ First 1 ∷
-    Part (Day Zero) ∷ Or 1 ∷ Part (Day Bare) ∷ Byte 32 ∷ Part (MonthName Short Any) ∷
-    Byte 32 ∷ Part (Year Calendar Automatic Zero Standard) ∷ Byte 32 ∷ Part (Hour Zero) ∷ Byte 58 ∷
-    Part (Minute Zero) ∷ Optional 2 ∷ Byte 58 ∷ Part (Second Zero) ∷ Byte 32 ∷
-    First 2 ∷ Part (OffsetHour Mandatory Zero) ∷ Part (OffsetMinute Zero) ∷ Or 1 ∷ Part (OffsetWord Gmt Any) ∷
-    Or 1 ∷ Part (OffsetWord Utc Any) ∷ Or 1 ∷ Part (OffsetWord Zulu Any) ∷ []
-
--- RFC 3339: `[year]-[month]-[day][first [T] [t] [ ]][hour]:[minute]:[second][optional [.[subsecond]]]`, and then
--- `[offset_hour sign:mandatory]:[offset_minute]` or `Z`, in any case
-abbrev pub rfc3339_items : List Item
-rfc3339_items =
-    Part (Year Calendar Automatic Zero Standard) ∷ Byte 45 ∷ Part (Month Zero) ∷ Byte 45 ∷ Part (Day Zero) ∷ First 1 ∷ Byte 84 ∷ Or 1 ∷ Byte 116 ∷ Or 1 ∷
-    Byte 32 ∷ Part (Hour Zero) ∷ Byte 58 ∷ Part (Minute Zero) ∷ Byte 58 ∷ Part (Second Zero) ∷ Optional 2 ∷ Byte 46 ∷ Part (Subsecond OneOrMore) ∷
-    First 3 ∷ Part (OffsetHour Mandatory Zero) ∷ Byte 58 ∷ Part (OffsetMinute Zero) ∷ Or 1 ∷ Part (OffsetWord Zulu Any) ∷ []
+    Part (WeekdayName Short Any) ∷ Byte 44 ∷ Byte 32 ∷ Part (Day Zero) ∷ Byte 32 ∷ Part (MonthName Short Any) ∷ Byte 32 ∷
+    Part (Year Calendar Automatic Zero Standard) ∷ Byte 32 ∷ Part (Hour Zero) ∷ Byte 58 ∷ Part (Minute Zero) ∷ Byte 58 ∷ Part (Second Zero) ∷
+    Byte 32 ∷ Part (OffsetHour Mandatory Zero) ∷ Part (OffsetMinute Zero) ∷ []
 
 -- a year from 1900 to 9999
 abbrev pub is_mail_year : ℤ → Bool
@@ -54,7 +41,6 @@ pub record WellKnownAreClear : Type 0 where
   pub fixed : IsTrue (is_clear fixed_items)
   pub fixed_at : IsTrue (is_clear fixed_items_at)
   pub rfc2822 : IsTrue (is_clear rfc2822_items)
-  pub rfc3339 : IsTrue (is_clear rfc3339_items)
   pub iso8601 : IsTrue (is_clear iso8601_items)
   pub iso8601_date : IsTrue (is_clear iso8601_date_items)
   pub iso8601_time : IsTrue (is_clear iso8601_time_items)

@@ -136,8 +136,8 @@ unfoldable pub use Rattle.format_descriptions.specs.DescriptionNames.{date_name_
 unfoldable pub use Rattle.format_descriptions.specs.DescriptionSteps.{begin_name, between_words, escaped, fault_at_end, finish_component, in_word}
 unfoldable pub use Rattle.format_descriptions.specs.DescriptionSteps.{is_closed, open_bracket, outside, step}
 pub use Rattle.format_descriptions.specs.DescriptionTexts.{and_then, description_source, end_of_several, group_end, group_fault, group_opening}
-pub use Rattle.format_descriptions.specs.DescriptionTexts.{in_brackets, is_ignore, is_several, last_end, plain_source, refusal_of_items, unless_fault}
-pub use Rattle.format_descriptions.specs.DescriptionTexts.{with_piece, with_source}
+pub use Rattle.format_descriptions.specs.DescriptionTexts.{in_brackets, is_ignore, is_several, last_end, plain_source, refusal_of_items}
+pub use Rattle.format_descriptions.specs.DescriptionTexts.{source_length, unless_fault, with_piece, with_source}
 unfoldable pub use Rattle.format_descriptions.specs.DescriptionTexts.{byte_source, component_source, source_from}
 unfoldable pub use Rattle.format_descriptions.specs.DescriptionValues.{base_at, case_at, count_from, few_digits_at, first_number_at, hour_repr_at}
 unfoldable pub use Rattle.format_descriptions.specs.DescriptionValues.{many_digits_at, month_repr_at, padding_at, precision_at, range_at}
@@ -148,12 +148,13 @@ unfoldable pub use Rattle.format_descriptions.specs.DescriptionWords.{ends_word,
 pub use Rattle.format_descriptions.specs.Descriptions.{first_items, items_of_description, refusal_of}
 pub use Rattle.format_descriptions.specs.Groups.{fault_after, is_other, size_of}
 unfoldable pub use Rattle.format_descriptions.specs.Groups.{written_from}
-pub use Rattle.format_descriptions.specs.InstantValues.{HasInstantParts, instant_at, or_no_count, unix_nanoseconds}
+pub use Rattle.format_descriptions.specs.InstantValues.{HasInstantParts, instant_at, or_no_count, tells_instant, unix_nanoseconds}
 unfoldable pub use Rattle.format_descriptions.specs.InstantValues.{counted_instant, instant_of_counts, wrong_instant}
 pub use Rattle.format_descriptions.specs.Iso8601.{clock_form, date_form, date_part, fraction_form, has_iso8601_text, has_short_year, has_time}
 pub use Rattle.format_descriptions.specs.Iso8601.{has_whole_offset, is_short_year, iso8601_date_items, iso8601_items, iso8601_time_items, mark_part}
 pub use Rattle.format_descriptions.specs.Iso8601.{offset_form, offset_part, time_part, year_form}
 unfoldable pub use Rattle.format_descriptions.specs.Iso8601.{iso8601_form}
+pub use Rattle.format_descriptions.specs.KeptParts.{Keeps, kept_of, part_if, parts_kept}
 pub use Rattle.format_descriptions.specs.Kinds.{by_kind, lacking}
 unfoldable pub use Rattle.format_descriptions.specs.Kinds.{flat_lacking}
 pub use Rattle.format_descriptions.specs.Known.{date_items}
@@ -174,11 +175,15 @@ pub use Rattle.format_descriptions.specs.Reading.{digit_more, end_at, ignored_at
 unfoldable pub use Rattle.format_descriptions.specs.Reading.{counted_at, decimal_at, digits_on, four_at, letter_at, month_at, more_at, past_digits}
 unfoldable pub use Rattle.format_descriptions.specs.Reading.{period_at, sign_at, signed_century_at, signed_hours_at, signed_year_at, six_at, three_at}
 unfoldable pub use Rattle.format_descriptions.specs.Reading.{three_digits_at, two_at, unix_at, weekday_at, weekday_number_at, word_at, year_since_at}
+pub use Rattle.format_descriptions.specs.Rfc2822.{Fault, blanks_at, clock_read, date_read, letter_zone_at, mail_parts, mail_refusal, mark_between}
+pub use Rattle.format_descriptions.specs.Rfc2822.{offset_read, or_fault, part_read, past_comments, starts_letter, then_blanks, weekday_read}
+pub use Rattle.format_descriptions.specs.Rfc2822.{whole_word_at, year_read, zones}
+unfoldable pub use Rattle.format_descriptions.specs.Rfc2822.{are_comments, mail_front, mail_year_at, mail_zone_at, named_zone_at, past_blanks}
 pub use Rattle.format_descriptions.specs.Spelled.{Spells}
 pub use Rattle.format_descriptions.specs.Values.{HasDateParts, calendar_year, day_in_iso_year, day_with, iso_year, tells_date, year_known}
 unfoldable pub use Rattle.format_descriptions.specs.Values.{date_of_parts, day_in_year, iso_day, month_day, week_day, week_ordinal, wrong_date}
 unfoldable pub use Rattle.format_descriptions.specs.Values.{wrong_day, wrong_week, wrong_year, year_day}
-pub use Rattle.format_descriptions.specs.WellKnown.{has_rfc2822_text, is_mail_year, rfc2822_items, rfc3339_items}
+pub use Rattle.format_descriptions.specs.WellKnown.{has_rfc2822_text, is_mail_year, rfc2822_items}
 pub use Rattle.format_descriptions.specs.Written.{Fits, described_text, is_year_since, items_text, name_in_form, unix_rounded, week_by, year_by}
 pub use Rattle.format_descriptions.specs.Written.{year_sign}
 unfoldable pub use Rattle.format_descriptions.specs.Written.{century_digits, century_text, component_text, flat_text, four_text, hour_12, item_text}

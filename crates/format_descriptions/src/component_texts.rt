@@ -12,7 +12,7 @@ use calendar_values::Text;
 pub(crate) type Source = Result<usize, (ItemFault, usize)>;
 
 // The name of a component, and its modifiers.
-type Words = (
+pub(crate) type Words = (
     &'static [u8],
     &'static [u8],
     &'static [u8],
@@ -88,7 +88,7 @@ pub(crate) fn put_component(
 
 // The name of a component and its modifiers, but for the count of `Ignore`.
 #[tactic(auto, unfolding(crate::specs::DescriptionTexts::component_source))]
-fn words_of(component: Component) -> Result<Words, ItemFault>
+pub(crate) fn words_of(component: Component) -> Result<Words, ItemFault>
     requires { is_ignore component ≡ false }
     ensures { result_map_both
         (λ words. in_brackets words.0.now words.1.now words.2.now words.3.now words.4.now)

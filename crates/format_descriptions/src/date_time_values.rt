@@ -35,8 +35,8 @@ impl Parts {
         named_plain(self)
     }
 
-    /// The date-time of these parts at its offset. Fails as `date` does, then as `time` does, and
-    /// then as `offset` does.
+    /// The date-time of these parts at its offset. It compares no count of a Unix timestamp, which
+    /// `timestamp` does. Fails as `date` does, then as `time` does, and then as `offset` does.
     ///
     /// ```
     /// let parts = format_descriptions::parse_rfc2822(b"1 Jan 1970 00:00:00 GMT");

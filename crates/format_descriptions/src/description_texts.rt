@@ -1,5 +1,5 @@
 //! Texts of descriptions, from their items.
-ghost use Rattle.std.specs.Prelude.{◌≡◌, ◌++◌, ℕ, List, Ok, Err, ◌≤◌, ◌-◌, length, take, drop, IfOk, IfErr, IfNone, false, nat_lt};
+ghost use Rattle.std.specs.Prelude.{◌≡◌, ◌++◌, ℕ, List, Ok, Err, ◌≤◌, ◌-◌, length, take, drop, IfOk, IfErr, IfNone, OnErr, false, nat_lt};
 ghost use Rattle.std.specs.Result.{result_map_both};
 ghost use Rattle.format_descriptions.specs.DescriptionTexts.{with_piece, with_source, byte_source, plain_source};
 ghost use Rattle.format_descriptions.specs.DescriptionTexts.{group_opening, group_end, is_several, end_of_several};
@@ -7,6 +7,7 @@ ghost use Rattle.format_descriptions.specs.DescriptionTexts.{group_fault, last_e
 ghost use Rattle.format_descriptions.specs.DescriptionTexts.{description_source, refusal_of_items};
 
 use crate::component_texts::{Source, put_component, put_piece};
+use crate::description_lengths::count_items;
 use crate::item::{behind, size_of};
 use crate::{DescriptionVersion, Item, ItemFault, ItemRefusal};
 
@@ -14,6 +15,7 @@ use crate::{DescriptionVersion, Item, ItemFault, ItemRefusal};
 /// and no byte after it changes. `parse_description` reads it back as the same items.
 ///
 /// Else why the items have no text, and at which of them: the first fault, which `NoRoom` is too.
+/// After an error no byte of `room` is changed.
 ///
 /// ```
 /// use format_descriptions::{Component, DescriptionVersion, Item, Padding, write_description};
@@ -38,9 +40,13 @@ pub fn write_description(
     ensures refused { IfErr result (λ refusal. (left : ℕ) ×
         (description_source version (length room.old) items.now ≡ Err (refusal.fault, left)) ×
         (refusal.place ≡ length items.now - left)) }
+    ensures unchanged { OnErr result (room.new ≡ room.old) }
 {
-    match put_items(version, 0, items, items.len(), room, 0) {
-        Ok(used) => Ok(used),
+    match count_items(version, 0, items, items.len(), room.len(), 0) {
+        Ok(count) => {
+            let _text = put_items(version, 0, items, items.len(), room, 0);
+            Ok(count)
+        }
         Err(fault) => Err(refusal(items, fault)),
     }
 }
@@ -112,6 +118,7 @@ fn put_items(
 }
 
 // Puts the text of an item that is no head of a group, after the `]` of several groups.
+#[inline(never)]
 fn put_item(
     version: DescriptionVersion,
     depth: u8,
@@ -140,6 +147,7 @@ fn put_item(
 }
 
 // Puts the text before a group of this size, of this number of items at most, after the `]` of several groups.
+#[inline(never)]
 fn put_opening(
     depth: u8,
     several: bool,
@@ -207,7 +215,7 @@ fn put_byte(
 }
 
 // The text before a group.
-fn group_opening(item: Item) -> &'static [u8]
+pub(crate) fn group_opening(item: Item) -> &'static [u8]
     ensures { result.now ≡ group_opening item }
 {
     match item {
@@ -219,7 +227,7 @@ fn group_opening(item: Item) -> &'static [u8]
 }
 
 // The text after a group.
-fn group_end(item: Item) -> &'static [u8]
+pub(crate) fn group_end(item: Item) -> &'static [u8]
     ensures { result.now ≡ group_end item }
 {
     match item {
@@ -230,7 +238,7 @@ fn group_end(item: Item) -> &'static [u8]
 }
 
 // Whether another group can follow this one in the same brackets.
-fn is_several(item: Item) -> bool
+pub(crate) fn is_several(item: Item) -> bool
     ensures { result ≡ is_several item }
 {
     match item {
@@ -240,14 +248,14 @@ fn is_several(item: Item) -> bool
 }
 
 // The `]` of several groups at the end of the items.
-fn last_end(several: bool) -> &'static [u8]
+pub(crate) fn last_end(several: bool) -> &'static [u8]
     ensures { result.now ≡ last_end several }
 {
     if several { b"]" } else { b"" }
 }
 
 // The `]` of several groups, unless this is another of them.
-fn end_of_several(several: bool, item: Item) -> &'static [u8]
+pub(crate) fn end_of_several(several: bool, item: Item) -> &'static [u8]
     ensures { result.now ≡ end_of_several several item }
 {
     match (several, item) {
@@ -257,7 +265,13 @@ fn end_of_several(several: bool, item: Item) -> &'static [u8]
 }
 
 // The fault of a group of this size, of this number of items at most.
-fn group_fault(depth: u8, several: bool, item: Item, size: usize, count: usize) -> Option<ItemFault>
+pub(crate) fn group_fault(
+    depth: u8,
+    several: bool,
+    item: Item,
+    size: usize,
+    count: usize,
+) -> Option<ItemFault>
     ensures fault { result ≡ group_fault depth several item size count }
     ensures fits { IfNone result ((size ≤ count) × (depth ≤ 31)) }
 {

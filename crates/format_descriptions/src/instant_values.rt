@@ -1,10 +1,11 @@
 //! The instant that the Unix timestamps of a text name.
-ghost use Rattle.std.specs.Prelude.{◌≡◌, ◌+ℤ◌, ◌≤ℤ◌, pos, negsuc, IfOk, codes};
+ghost use Rattle.std.specs.Prelude.{◌≡◌, ◌+ℤ◌, ◌≤ℤ◌, ℤ, pos, negsuc, IfOk, IsTrue, Ok, codes};
+ghost use Rattle.calendar_values.specs.WallClock.{IsInstant};
 ghost use Rattle.calendar_values.specs.Outcomes.{Gives};
 ghost use Rattle.utc_times.specs.UnixTime.{instant_outcome};
 ghost use Rattle.format_descriptions.specs.InstantValues.{or_no_count, unix_nanoseconds, wrong_instant, instant_at};
 ghost use Rattle.format_descriptions.specs.InstantValues.{counted_instant, instant_of_counts};
-ghost use Rattle.format_descriptions.specs.InstantValues.{HasInstantParts};
+ghost use Rattle.format_descriptions.specs.InstantValues.{HasInstantParts, tells_instant};
 
 use crate::clock_values::or_zero;
 use crate::parts::{fits, fits_count};
@@ -15,10 +16,11 @@ use stamp_times::Timestamp;
 use utc_times::UtcDateTime;
 
 impl Parts {
-    /// The instant of these parts, by the finest count of a Unix timestamp: the fraction of the
-    /// second counts with seconds. Each other count and the fraction have to be those of the
-    /// instant. Fails with `Missing` if there is no count. Fails with `Wrong` for the first out of
-    /// range, or other than that of the instant.
+    /// The instant of these parts, by the finest count of a Unix timestamp. The fraction of the
+    /// second gives the digits below the unit of that count. Each other count and the fraction have
+    /// to be those of the instant. So an instant that has all parts is read, if a count of
+    /// nanoseconds or a fraction tells it. Fails with `Missing` if there is no count. Fails with
+    /// `Wrong` for the first out of range, or other than that of the instant.
     ///
     /// ```
     /// use format_descriptions::{Component, Item, Sign, UnixPrecision};
@@ -29,6 +31,8 @@ impl Parts {
     pub fn timestamp(&self) -> Result<Timestamp, ValueRefusal>
         ensures equation { result ≡ instant_of_counts self.now }
         ensures value { IfOk result (λ instant. HasInstantParts self.now instant) }
+        ensures only { (i : ℤ) → IsInstant i → IsTrue (tells_instant self.now) →
+            HasInstantParts self.now i → result ≡ Ok i }
     {
         named_instant(self)
     }
@@ -45,6 +49,8 @@ impl Parts {
     pub fn utc_date_time(&self) -> Result<UtcDateTime, ValueRefusal>
         ensures equation { result ≡ instant_of_counts self.now }
         ensures value { IfOk result (λ instant. HasInstantParts self.now instant) }
+        ensures only { (i : ℤ) → IsInstant i → IsTrue (tells_instant self.now) →
+            HasInstantParts self.now i → result ≡ Ok i }
     {
         match self.timestamp() {
             Ok(at) => Ok(UtcDateTime::from(at)),
@@ -74,7 +80,7 @@ fn named_instant(parts: &Parts) -> Result<Timestamp, ValueRefusal>
             parts,
             Field::UnixMicrosecond,
             UnixPrecision::Microseconds,
-            0,
+            or_zero(parts.nanosecond) % 1_000,
             count,
         );
     }
@@ -84,7 +90,7 @@ fn named_instant(parts: &Parts) -> Result<Timestamp, ValueRefusal>
             parts,
             Field::UnixMillisecond,
             UnixPrecision::Milliseconds,
-            0,
+            or_zero(parts.nanosecond) % 1_000_000,
             count,
         );
     }

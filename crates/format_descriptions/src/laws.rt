@@ -1,11 +1,10 @@
 //! Laws of descriptions. Each function here proves a law, and does nothing when it is called.
-ghost use Rattle.format_descriptions.specs.CaseLaws.{AnyCaseReadsTheSame};
 ghost use Rattle.format_descriptions.specs.Choices.{TextsSpellChoices, FrontsSpellChoices, FirstChoicesAreTaken};
 ghost use Rattle.format_descriptions.specs.DescriptionLaws.{WrittenDescriptionsReadBack};
-ghost use Rattle.format_descriptions.specs.DirectReading.{Rfc3339IsADescription};
 ghost use Rattle.format_descriptions.specs.Laws.{DisplaysAreDescriptions, FixedTextsAreDescriptions};
+ghost use Rattle.format_descriptions.specs.MailLaws.{MailTextsAreRead, MailTextsReadBack};
 ghost use Rattle.format_descriptions.specs.PlaceLaws.{PlacesAreThoseOfTheChoice};
-ghost use Rattle.format_descriptions.specs.RoundTrips.{WrittenTextsReadBack, EqualTextsHaveEqualParts};
+ghost use Rattle.format_descriptions.specs.RoundTrips.{WrittenTextsReadBack};
 ghost use Rattle.format_descriptions.specs.SeparateChoices.{SeparateChoicesAreRead};
 ghost use Rattle.format_descriptions.specs.Spelled.{TextsAreReadAsSpelled};
 ghost use Rattle.format_descriptions.specs.ValueLaws.{WrittenValuesAreNamed};
@@ -31,18 +30,6 @@ pub fn written_texts_read_back()
 /// where there are enough parts of it.
 pub fn written_values_are_named()
     ensures { WrittenValuesAreNamed }
-{}
-
-/// A text that a description reads is read by the same description in any case, and has the same
-/// parts.
-pub fn any_case_reads_the_same()
-    ensures { AnyCaseReadsTheSame }
-{}
-
-/// A text that a clear description writes of two values has the same parts of both: a text has one
-/// reading.
-pub fn equal_texts_have_equal_parts()
-    ensures { EqualTextsHaveEqualParts }
 {}
 
 /// A description without groups reads a text only if the text spells it. The text has each byte,
@@ -89,14 +76,6 @@ pub fn places_are_those_of_the_choice()
     ensures { PlacesAreThoseOfTheChoice }
 {}
 
-/// The description of RFC 3339 reads a text as `rfc3339::parse_rfc3339` does: as the same value, or
-/// with the same error. They differ on a year with a sign and on an offset of 24 or 25 hours. These
-/// are errors of the direct reader, and the description reads them, as `+1990-12-31T23:59:59Z` and
-/// `1990-12-31T23:59:59+24:00`. So it reads each text that the direct reader reads.
-pub fn rfc3339_is_a_description()
-    ensures { Rfc3339IsADescription }
-{}
-
 /// The well-known descriptions are clear: what they write is read back.
 pub fn well_known_are_clear()
     ensures { WellKnownAreClear }
@@ -106,4 +85,16 @@ pub fn well_known_are_clear()
 /// place for them.
 pub fn written_descriptions_read_back()
     ensures { WrittenDescriptionsReadBack }
+{}
+
+/// A year of RFC 2822 that is read is from 1900 to 9999. Examples say what years of two digits
+/// mean, which offset each zone has, where white space and comments may be, and where a fault is.
+pub fn mail_texts_are_read()
+    ensures { MailTextsAreRead }
+{}
+
+/// A text that `format_rfc2822` writes is read back: its parts name the date-time without its
+/// fraction of a second, at the same offset.
+pub fn written_mail_is_read_back()
+    ensures { MailTextsReadBack }
 {}

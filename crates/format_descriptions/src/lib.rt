@@ -9,6 +9,7 @@ mod date_time_values;
 mod description;
 mod description_components;
 mod description_groups;
+mod description_lengths;
 mod description_modifiers;
 mod description_names;
 mod description_refusal;
@@ -25,6 +26,7 @@ mod iso8601;
 mod iso8601_forms;
 mod item;
 mod item_refusal;
+mod kept_parts;
 mod kinds;
 pub mod laws;
 mod modifier_texts;
@@ -37,11 +39,11 @@ mod parts;
 mod pieces;
 mod read;
 mod reading;
+mod rfc2822;
 mod unix;
 mod usual;
 mod value_refusal;
 mod values;
-mod well_known;
 mod words;
 mod write;
 
@@ -66,6 +68,6 @@ pub use parts::Parts;
 pub use read::{
     parse, parse_component, parse_component_into, parse_front, parse_front_into, parse_into,
 };
+pub use rfc2822::{MailRefusal, format_rfc2822, parse_rfc2822, parse_rfc2822_front_into};
 pub use value_refusal::{Field, ValueRefusal};
-pub use well_known::{format_rfc2822, parse_rfc2822, parse_rfc3339};
 pub use write::{format, format_component, format_component_into, format_date_time};

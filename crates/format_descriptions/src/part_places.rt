@@ -55,13 +55,14 @@ fn last_place(count: usize, items: &[Item], text: &[u8], field: Field) -> Option
     ensures equation { result ≡ last_place count items.now text.now field }
     ensures inside { IfSome result (λ at. at.place + at.length ≤ length text.now) }
 {
-    if count == 0 {
-        return None;
+    let mut count = count;
+    while count > 0 {
+        count -= 1;
+        if let Some(place) = place_of_item(count, items, text, field) {
+            return Some(place);
+        }
     }
-    match place_of_item(count - 1, items, text, field) {
-        Some(place) => Some(place),
-        None => last_place(count - 1, items, text, field),
-    }
+    None
 }
 
 // The place of the item of this index, if it is the one that gives the part.

@@ -1,6 +1,7 @@
 //! Texts read by descriptions.
 ghost use Rattle.std.specs.Prelude.{◌≡◌, ◌-◌, ◌≤◌, ℕ, None, Ok, Err, length, option_map, IfOk, IfErr, IfSome, IfNone, IsTrue};
 ghost use Rattle.std.specs.Result.{result_map_both};
+ghost use Rattle.format_descriptions.specs.KeptParts.{Keeps};
 ghost use Rattle.format_descriptions.specs.Read.{part_at, item_at, items_at, no_parts, front_of, read_from, read_end};
 ghost use Rattle.format_descriptions.specs.declared.component.Component.TheVariants.{UnixTimestamp};
 
@@ -8,6 +9,7 @@ use crate::clock_fractions::{hour_fraction_at, minute_fraction_at};
 use crate::fields::{component_at, signed_hours, signed_year};
 use crate::fractions::fraction;
 use crate::item::{behind, fault_after, is_other, size_of};
+use crate::kept_parts::{keep, restore};
 use crate::parts::{fits, fits_choice, fits_signed, signed};
 use crate::reading::{after_mark, two};
 use crate::unix::unix_at;
@@ -159,7 +161,8 @@ fn front_of<'a>(items: &[Item], text: &'a [u8], parts: &mut Parts) -> Result<&'a
 }
 
 // Reads the first items at the front of a text into the parts, and returns what follows them. Else how many bytes are left
-// from the item on that cannot be read: then the parts are those of the items before it, or of a group.
+// from the item on that cannot be read: then the parts are those of the items before it, or of a group. It calls itself for
+// each group in a group, so an item is read by a function of its own: its stack is not there once for each of them.
 fn front<'a>(
     items: &[Item],
     count: usize,
@@ -168,6 +171,7 @@ fn front<'a>(
 ) -> Result<&'a [u8], usize>
     ensures value { result_map_both (λ rest. (parts.new, rest.now)) (λ left. left) result
         ≡ read_from items.now 0 count None text.now parts.old }
+    ensures kept { Keeps parts.old parts.new }
     ensures shorter { IfOk result (λ rest. length rest.now ≤ length text.now) }
     ensures left { IfErr result (λ left. left ≤ length text.now) }
 {
@@ -184,7 +188,7 @@ fn front<'a>(
             if let Some(left) = fault {
                 return Err(left);
             }
-            let Some(more) = item_at(item, rest, parts) else {
+            let Some(more) = group_item_at(item, rest, parts) else {
                 return Err(rest.len());
             };
             rest = more;
@@ -211,14 +215,14 @@ fn front<'a>(
             count = count.saturating_sub(size);
             continue;
         }
-        let before = *parts;
+        let before = keep(parts);
         match front(others, size.min(count), rest, parts) {
             Ok(more) => {
                 rest = more;
                 fault = None;
             }
             Err(left) => {
-                *parts = before;
+                restore(&before, parts);
                 fault = fault_after(*item, fault, left);
             }
         }
@@ -252,12 +256,27 @@ fn front_end<'a>(fault: Option<usize>, text: &'a [u8], parts: &Parts) -> Result<
     }
 }
 
+// Reads an item of a group into the parts, and returns what follows it.
+#[inline(never)]
+fn group_item_at<'a>(item: &Item, text: &'a [u8], parts: &mut Parts) -> Option<&'a [u8]>
+    ensures value { option_map (λ rest. (parts.new, rest.now)) result
+        ≡ item_at item.now text.now parts.old }
+    ensures kept { Keeps parts.old parts.new }
+    ensures shorter { IfSome result (λ rest. length rest.now ≤ length text.now) }
+{
+    match item_at(item, text, parts) {
+        Some(rest) => Some(rest),
+        None => None,
+    }
+}
+
 // Reads an item into the parts, and returns what follows it.
 #[tactic(auto, unfolding(crate::specs::Read::item_at))]
 #[inline(always)]
 fn item_at<'a>(item: &Item, text: &'a [u8], parts: &mut Parts) -> Option<&'a [u8]>
     ensures value { option_map (λ rest. (parts.new, rest.now)) result
         ≡ item_at item.now text.now parts.old }
+    ensures unchanged { IfNone result (parts.new ≡ parts.old) }
     ensures shorter { IfSome result (λ rest. length rest.now ≤ length text.now) }
 {
     match item {

@@ -186,3 +186,42 @@ fn instants_of_timestamps(rt: HostRuntime) -> Result<(), Fail> {
     }
     Ok(())
 }
+
+#[test]
+fn fractions_finer_than_the_count(rt: HostRuntime) -> Result<(), Fail> {
+    let fraction = Item::Part(Component::Subsecond(SubsecondDigits::OneOrMore));
+    for (precision, text, wanted) in [
+        (
+            UnixPrecision::Milliseconds,
+            "1709166600500 500000001",
+            Some(1_709_166_600_500_000_001),
+        ),
+        (
+            UnixPrecision::Microseconds,
+            "1709166600500000 500000001",
+            Some(1_709_166_600_500_000_001),
+        ),
+        (
+            UnixPrecision::Milliseconds,
+            "-1501 499999999",
+            Some(-1_500_000_001),
+        ),
+        (UnixPrecision::Microseconds, "-1 999999", Some(-1_000)),
+        (UnixPrecision::Milliseconds, "1709166600500 501", None),
+    ] {
+        let count = Component::UnixTimestamp(precision, Sign::Automatic);
+        let items = [Item::Part(count), Item::Byte(b' '), fraction];
+        match parse(&items, text.as_bytes()) {
+            Ok(parts) => {
+                let read = parts.timestamp().map(|at| at.as_nanoseconds());
+                is(
+                    &rt,
+                    read,
+                    wanted.ok_or(ValueRefusal::Wrong(Field::Subsecond)),
+                );
+            }
+            Err(place) => is(&rt, place, 99),
+        }
+    }
+    Ok(())
+}

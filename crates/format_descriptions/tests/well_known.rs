@@ -1,9 +1,11 @@
 //! RFC 2822: the rows are those of the RFC (appendix A, 3.3), of RFC 9110 (5.6.7), and of
-//! `format_datetime` and `parsedate_to_datetime` of Python. RFC 3339: the rows are those of the RFC
-//! (5.8), with the seconds of `fromisoformat` of Python.
+//! `format_datetime` and `parsedate_to_datetime` of Python.
 use super::is;
 use calendar_values::{Date, Month, Time, UtcOffset};
-use format_descriptions::{format_rfc2822, parse_iso8601, parse_rfc2822, parse_rfc3339};
+use format_descriptions::{
+    Field, MailRefusal, Parts, format_rfc2822, parse_iso8601, parse_rfc2822,
+    parse_rfc2822_front_into,
+};
 use offset_times::OffsetDateTime;
 use std::process::Abort;
 use std::test::Fail;
@@ -48,26 +50,54 @@ fn date_times_without_a_text(rt: HostRuntime) -> Result<(), Fail> {
     Ok(())
 }
 
+// The offset in hours, or the place of the fault. The rows are those of the RFC (appendix A.6, 4.3)
+// and of `parsedate_to_datetime` of Python, which reads no letter but Z, and years of one digit.
 #[test]
 fn other_texts_of_rfc_2822(rt: HostRuntime) {
-    for (text, day, second, place) in [
-        ("6 Nov 1994 08:49 GMT", 6, 99, 99),
-        ("sun, 6 nov 1994 08:49:37 utc", 6, 37, 99),
-        ("06 Nov 1994 08:49:37 z", 6, 37, 99),
-        ("Sun, 06 Nov 94 08:49:37 GMT", 99, 99, 12),
-        ("Sun, 06 Nov 1994 08:49:37", 99, 99, 25),
-        ("Sun, 06 Nov 1994 08:49:37 EST", 99, 99, 26),
-        ("Sun 06 Nov 1994 08:49:37 GMT", 99, 99, 0),
+    for (text, hours, place) in [
+        ("6 Nov 1994 08:49 GMT", 0, 99),
+        ("sun, 6 nov 1994 08:49:37 utc", 0, 99),
+        ("06 Nov 1994 08:49:37 z", 0, 99),
+        ("Sun, 06 Nov 94 08:49:37 UT", 0, 99),
+        ("Sun, 06 Nov 1994 08:49:37 EST", -5, 99),
+        ("06 Nov 94 08:49 pdt (Pacific (summer) time)", -7, 99),
+        (" Sun\t,\r\n 06  Nov  1994 08 : 49 :37  -0600 ", -6, 99),
+        ("Sun, 06 Nov 1994 08:49:37", 99, 25),
+        ("Sun, 06 Nov 1994 08:49:37 J", 99, 26),
+        ("Sun, 06 Nov 1994 08:49:37 (GMT)", 99, 26),
+        ("Sun, 06 Nov 1994 08:49:37 GMT (a", 99, 29),
+        ("Sun 06 Nov 1994 08:49:37 GMT", 99, 3),
+        ("Sun, 06 Nov +1994 08:49:37 GMT", 99, 12),
+        ("Sun, 06 Nov 1894 08:49:37 GMT", 99, 12),
+        ("Sun, 06 Nov 0094 08:49:37 GMT", 99, 12),
     ] {
         match parse_rfc2822(text.as_bytes()) {
             Ok(parts) => {
-                is(&rt, parts.day, Some(day));
-                is(&rt, parts.second.unwrap_or(99), second);
-                is(&rt, parts.offset().ok(), Some(UtcOffset::UTC));
+                is(&rt, (parts.year, parts.day), (Some(1994), Some(6)));
+                let seconds = parts.offset().ok().map(|it| it.whole_seconds());
+                is(&rt, seconds, Some(hours * 3_600));
             }
             Err(at) => is(&rt, at, place),
         }
     }
+}
+
+// RFC 2822, 4.3: two digits are of 1950 to 2049, as Python's `parsedate_to_datetime` has 69 to 99 and 00 to 68.
+#[test]
+fn fronts_of_rfc_2822(rt: HostRuntime) {
+    let mut parts = Parts::none();
+    let rest = parse_rfc2822_front_into(b"7 Sep 02 00:00 GMT, then", &mut parts);
+    is(&rt, rest.map(|rest| rest.len()), Ok(6));
+    is(&rt, (parts.year, parts.offset_hour), (Some(2002), Some(0)));
+    let mut other = Parts::none();
+    other.month = Some(8);
+    let rest = parse_rfc2822_front_into(b"7 Sep 02 00:00 GMT", &mut other);
+    let refusal = MailRefusal {
+        place: 2,
+        part: Some(Field::Month),
+    };
+    is(&rt, rest.err(), Some(refusal));
+    is(&rt, other.day, None);
 }
 
 // The rows are those that `fromisoformat` of Python reads, and days of the year, which ISO 8601 has besides.
@@ -110,33 +140,5 @@ fn texts_that_are_not_of_iso_8601(rt: HostRuntime) {
         ("", 0),
     ] {
         is(&rt, parse_iso8601(text.as_bytes()).err(), Some(place));
-    }
-}
-
-#[test]
-fn texts_of_rfc_3339(rt: HostRuntime) {
-    for (text, second, nanosecond) in [
-        ("1985-04-12T23:20:50.52Z", 482_196_050, 520_000_000),
-        ("1996-12-19t16:39:57-08:00", 851_042_397, 0),
-        ("1937-01-01 12:00:27.87+00:20", -1_041_337_173, 870_000_000),
-        ("1990-12-31T23:59:59.1234567891z", 662_687_999, 123_456_789),
-        ("1970-01-01T00:00:00-00:00", 0, 0),
-        ("+1985-04-12T23:20:50+24:00", 482_109_650, 0),
-    ] {
-        let read = parse_rfc3339(text.as_bytes()).map(|parts| parts.offset_date_time());
-        let shown = read.map(|at| at.map(|at| (at.unix_timestamp(), at.nanosecond())));
-        is(&rt, shown, Ok(Ok((second, nanosecond))));
-    }
-}
-
-#[test]
-fn other_texts_of_rfc_3339(rt: HostRuntime) {
-    for (text, place) in [
-        ("1985-04-12T23:20:50", 19),
-        ("1985-04-12_23:20:50Z", 10),
-        ("1985-04-12T23:20:50.Z", 19),
-        ("1985-04-12T23:20:50+0100", 22),
-    ] {
-        is(&rt, parse_rfc3339(text.as_bytes()).err(), Some(place));
     }
 }

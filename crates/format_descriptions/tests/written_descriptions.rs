@@ -69,9 +69,10 @@ fn brackets_are_written(rt: HostRuntime) {
 
 // Compares the refusal of items, in version 1.
 fn is_refused(rt: &impl Abort, items: &[Item], place: usize, fault: ItemFault) {
-    let mut room = [0; 12];
+    let mut room = [7; 12];
     let refused = write_description(DescriptionVersion::One, items, &mut room);
     is(rt, refused, Err(ItemRefusal { place, fault }));
+    is(rt, room, [7; 12]);
 }
 
 #[test]

@@ -69,12 +69,12 @@ IsOrdinalLane-step day h =
     subst (λ (x : ℕ). IsOrdinalLane (cond (step_leap x) 1 0) (step_ordinal x)) (shifted_day-unshifted day)
     (IsOrdinalLane-day (pos day -ℤ pos 869_850_581) (day-unshifted day h))
 
-bit-set : (t : Bool) → (cond {A = ℕ} t 1 0 == 1) ≡ t
+pub bit-set : (t : Bool) → (cond {A = ℕ} t 1 0 == 1) ≡ t
 bit-set true = refl
 bit-set false = refl
 
 -- the bits of a year, counted from the year 0
-year-lane : (y : ℕ) → y < 2 ^ 31 → to_z w32 ((y + (2 ^ 32 - 2_379_600)) % 2 ^ 32) ≡ pos y -ℤ pos 2_379_600
+pub year-lane : (y : ℕ) → y < 2 ^ 31 → to_z w32 ((y + (2 ^ 32 - 2_379_600)) % 2 ^ 32) ≡ pos y -ℤ pos 2_379_600
 year-lane y h = elim (cases_order y 2_379_600) [
   | inl e ↦ rw e refl
   | inr (inl lt) ↦ (

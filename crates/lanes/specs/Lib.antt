@@ -1,4 +1,5 @@
 pub mod DateTimes
+pub mod Dates
 pub mod MarchYears
 pub mod MinuteTexts
 pub mod Seconds

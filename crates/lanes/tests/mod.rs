@@ -4,6 +4,7 @@ use std::process::Abort;
 
 mod calendar;
 mod date_times;
+mod dates;
 mod minute_texts;
 mod seconds;
 

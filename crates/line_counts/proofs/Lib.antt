@@ -1,6 +1,7 @@
 pub mod BlockLemmas
 pub mod CountLemmas
 pub mod EmptyLemmas
+pub mod EmptyRowLemmas
 pub mod RowLemmas
 pub mod StampLemmas
 pub mod StandLemmas

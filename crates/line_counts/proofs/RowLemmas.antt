@@ -7,35 +7,37 @@ use Rattle.line_counts.specs.Counting.{Counting, most}
 use Rattle.line_counts.specs.Counts.{empty_rows}
 
 -- no bucket is left
-empty_rows-none : (c : Counting) (n : ℕ) (start to : ℤ) → int_lt start to ≡ false → empty_rows c n start to ≡ []
+empty_rows-none : {M : Type 0} (c : Counting M) (n : ℕ) (start to : ℤ) → int_lt start to ≡ false → empty_rows c n start to ≡ []
 unfolding empty_rows
 empty_rows-none c zero start to e = refl
 empty_rows-none c (suc n) start to e = rw e refl
 
 -- a row, and the others
-empty_rows-one : (c : Counting) (n : ℕ) (start to : ℤ) → int_lt start to ≡ true
+empty_rows-one : {M : Type 0} (c : Counting M) (n : ℕ) (start to : ℤ) → int_lt start to ≡ true
     → empty_rows c (suc n) start to ≡ c.row start 0 ++ empty_rows c n (c.next start) to
 unfolding empty_rows
 empty_rows-one c n start to e = rw e refl
 
-empty_rows-over : (c : Counting) (n : ℕ) (start to : ℤ) → n ≡ 0 → empty_rows c n start to ≡ []
+empty_rows-over : {M : Type 0} (c : Counting M) (n : ℕ) (start to : ℤ) → n ≡ 0 → empty_rows c n start to ≡ []
 unfolding empty_rows
 empty_rows-over c n start to e = rw e refl
 
 -- the rows before a bucket were sent, and so many at most are left
-pub record RowsSent (c : Counting) (from to : ℤ) (base now : Option (List ℕ)) (was_pending pending : List ℕ) (left : ℕ) (start : ℤ) : Type 0 where
-  pub done : List ℕ
-  pub whole : empty_rows c most from to ≡ done ++ empty_rows c left start to
-  pub sent : Sends base now pending (was_pending ++ done)
+pub record RowsSent {M : Type 0} (c : Counting M) (from to : ℤ) (base now : Option (List ℕ)) (was_pending pending : List ℕ) (left : ℕ) (start : ℤ) : Type 0
+  where
+    pub done : List ℕ
+    pub whole : empty_rows c most from to ≡ done ++ empty_rows c left start to
+    pub sent : Sends base now pending (was_pending ++ done)
 
-pub rows_first : (c : Counting) (from to : ℤ) (base : Option (List ℕ)) (pending : List ℕ) → RowsSent c from to base base pending pending most from
+pub rows_first : {M : Type 0} (c : Counting M) (from to : ℤ) (base : Option (List ℕ)) (pending : List ℕ)
+    → RowsSent c from to base base pending pending most from
 rows_first c from to base pending = record {
   done = [];
   whole = refl;
   sent = subst (λ (z : List ℕ). Sends base base pending z) (sym (append-nil pending)) (Sends-nothing base pending);
 }
 
-pub rows_next : (c : Counting) (from to : ℤ) (base b d : Option (List ℕ)) (was pending pending' : List ℕ) (left n : ℕ) (start : ℤ)
+pub rows_next : {M : Type 0} (c : Counting M) (from to : ℤ) (base b d : Option (List ℕ)) (was pending pending' : List ℕ) (left n : ℕ) (start : ℤ)
     → RowsSent c from to base b was pending left start → left ≡ suc n → int_lt start to ≡ true → Sends b d pending' (pending ++ c.row start 0)
     → RowsSent c from to base d was pending' n (c.next start)
 rows_next c from to base b d was pending pending' left n start h e lt sent = record {
@@ -46,7 +48,7 @@ rows_next c from to base b d was pending pending' left n start h e lt sent = rec
       (Sends-append base b d pending (was ++ h.done) pending' (c.row start 0) h.sent sent);
 }
 
-pub rows_cut : (c : Counting) (from to : ℤ) (base b d : Option (List ℕ)) (was pending : List ℕ) (left n : ℕ) (start : ℤ)
+pub rows_cut : {M : Type 0} (c : Counting M) (from to : ℤ) (base b d : Option (List ℕ)) (was pending : List ℕ) (left n : ℕ) (start : ℤ)
     → RowsSent c from to base b was pending left start → left ≡ suc n → int_lt start to ≡ true → AppendsBeginning b d (pending ++ c.row start 0)
     → AppendsBeginning base d (was ++ empty_rows c most from to)
 rows_cut c from to base b d was pending left n start h e lt cut =
@@ -59,17 +61,17 @@ rows_cut c from to base b d was pending left n start h e lt cut =
     subst (λ (z : List ℕ). AppendsBeginning base d z) all
     (AppendsBeginning-longer base d _ rest (AppendsBeginning-pending base b d pending (was ++ h.done) (c.row start 0) h.sent cut))
 
-all_sent : (c : Counting) (from to : ℤ) (base now : Option (List ℕ)) (was pending : List ℕ) (left : ℕ) (start : ℤ)
+all_sent : {M : Type 0} (c : Counting M) (from to : ℤ) (base now : Option (List ℕ)) (was pending : List ℕ) (left : ℕ) (start : ℤ)
     → RowsSent c from to base now was pending left start → empty_rows c left start to ≡ [] → Sends base now pending (was ++ empty_rows c most from to)
 all_sent c from to base now was pending left start h none =
     let whole = h.whole ∙ ap (λ (z : List ℕ). h.done ++ z) none ∙ append-nil h.done in
     subst (λ (z : List ℕ). Sends base now pending (was ++ z)) (sym whole) h.sent
 
-pub rows_end : (c : Counting) (from to : ℤ) (base now : Option (List ℕ)) (was pending : List ℕ) (left : ℕ) (start : ℤ)
+pub rows_end : {M : Type 0} (c : Counting M) (from to : ℤ) (base now : Option (List ℕ)) (was pending : List ℕ) (left : ℕ) (start : ℤ)
     → RowsSent c from to base now was pending left start → int_lt start to ≡ false → Sends base now pending (was ++ empty_rows c most from to)
 rows_end c from to base now was pending left start h e = all_sent c from to base now was pending left start h (empty_rows-none c left start to e)
 
-pub rows_over : (c : Counting) (from to : ℤ) (base now : Option (List ℕ)) (was pending : List ℕ) (left : ℕ) (start : ℤ)
+pub rows_over : {M : Type 0} (c : Counting M) (from to : ℤ) (base now : Option (List ℕ)) (was pending : List ℕ) (left : ℕ) (start : ℤ)
     → RowsSent c from to base now was pending left start → left ≡ 0 → Sends base now pending (was ++ empty_rows c most from to)
 rows_over c from to base now was pending left start h e = all_sent c from to base now was pending left start h (empty_rows-over c left start to e)
 

@@ -36,7 +36,7 @@ empty_if : (b d : Bool) (rest : List ℕ) → length rest ≡ 0 → length (cond
 empty_if true d rest e = length-append (cond d (marks 0) []) rest ∙ omega (arith, no_marks d, e)
 empty_if false d rest e = refl
 
-length-empty_rows : (c : Counting) (bucket : ℤ) (n : ℕ) (from to : ℤ) → length (empty_rows (with_marks c bucket) n from to) ≡ 0
+length-empty_rows : {M : Type 0} (c : Counting M) (bucket : ℤ) (n : ℕ) (from to : ℤ) → length (empty_rows (with_marks c bucket) n from to) ≡ 0
 unfolding empty_rows
 length-empty_rows c bucket zero from to = refl
 length-empty_rows c bucket (suc n) from to =
@@ -46,11 +46,11 @@ no_more : (b : Bool) (rest : List ℕ) → length rest ≡ 0 → length (cond b 
 no_more true rest e = refl
 no_more false rest e = e
 
-length-empty_run : (c : Counting) (bucket from to : ℤ) → length (empty_run (with_marks c bucket) from to) ≡ 0
+length-empty_run : {M : Type 0} (c : Counting M) (bucket from to : ℤ) → length (empty_run (with_marks c bucket) from to) ≡ 0
 length-empty_run c bucket from to =
     no_more (nat_lt c.most_empty (empty_count c.next most from to)) (empty_rows (with_marks c bucket) most from to) (length-empty_rows c bucket most from to)
 
-length-last_row : (c : Counting) (bucket : ℤ) (row : Option Row) → length (last_row (with_marks c bucket) row) ≡ lines_of_row bucket row
+length-last_row : {M : Type 0} (c : Counting M) (bucket : ℤ) (row : Option Row) → length (last_row (with_marks c bucket) row) ≡ lines_of_row bucket row
 length-last_row c bucket None = refl
 length-last_row c bucket (Some row) = marks_if (int_eq row.start bucket) row.count
 
@@ -70,7 +70,7 @@ counts true n = omega arith
 counts false n = omega arith
 
 -- a line in the bucket of the row, or in another
-row_grows : (c : Counting) (bucket start : ℤ) (row : Row) (same : Bool) (k : ℕ) → row.count ≤ k → suc k ≤ most → int_eq row.start start ≡ same
+row_grows : {M : Type 0} (c : Counting M) (bucket start : ℤ) (row : Row) (same : Bool) (k : ℕ) → row.count ≤ k → suc k ≤ most → int_eq row.start start ≡ same
     → length (cond same [] ((with_marks c bucket).row row.start row.count ++ empty_run (with_marks c bucket) (c.next row.start) start))
     + lines_of_row bucket (Some (cond same (record { start = start; count = one_more row.count }) (record { start = start; count = 1 })))
     ≡ lines_of_row bucket (Some row) + cond (int_eq start bucket) 1 0
@@ -84,14 +84,14 @@ row_grows c bucket start row false k low high e =
     let all = length-append (row_marks bucket row.start row.count) (empty_run (with_marks c bucket) (c.next row.start) start) in
     omega (arith, all, first, rest)
 
-row_adds : (c : Counting) (bucket : ℤ) (row : Option Row) (start : ℤ) (k : ℕ) → HasAtMost row k → suc k ≤ most
+row_adds : {M : Type 0} (c : Counting M) (bucket : ℤ) (row : Option Row) (start : ℤ) (k : ℕ) → HasAtMost row k → suc k ≤ most
     → length (ended_rows (with_marks c bucket) row start) + lines_of_row bucket (Some (row_after row start))
     ≡ lines_of_row bucket row + cond (int_eq start bucket) 1 0
 row_adds c bucket None start k low high = refl
 row_adds c bucket (Some row) start k low high = row_grows c bucket start row (int_eq row.start start) k low high refl
 
 -- a line, by its bucket
-line_adds : (c : Counting) (bucket : ℤ) (tally : Tally) (own : Option ℤ) (k : ℕ) → HasAtMost tally.row k → suc k ≤ most
+line_adds : {M : Type 0} (c : Counting M) (bucket : ℤ) (tally : Tally M) (own : Option ℤ) (k : ℕ) → HasAtMost tally.row k → suc k ≤ most
     → length (rows_by (with_marks c bucket) tally.row own) + lines_of_row bucket (tally_by tally own).row ≡ lines_of_row bucket tally.row + one_if_in bucket own
 line_adds c bucket tally None k low high = omega arith
 line_adds c bucket tally (Some start) k low high = row_adds c bucket tally.row start k low high
@@ -110,56 +110,58 @@ after_at_most : (row : Option Row) (start : ℤ) (k : ℕ) → HasAtMost row k �
 after_at_most None start k low high = omega arith
 after_at_most (Some row) start k low high = at_most row start (int_eq row.start start) k low high
 
-row_at_most : (tally : Tally) (own : Option ℤ) (k : ℕ) → HasAtMost tally.row k → suc k ≤ most → HasAtMost (tally_by tally own).row (suc k)
+row_at_most : {M : Type 0} (tally : Tally M) (own : Option ℤ) (k : ℕ) → HasAtMost tally.row k → suc k ≤ most → HasAtMost (tally_by tally own).row (suc k)
 row_at_most tally None k low high = larger tally.row k low
 row_at_most tally (Some start) k low high = after_at_most tally.row start k low high
 
-not_first : (n : ℕ) → nat_eq (one_more n) 0 ≡ false
-not_first n = grind (arith, nat_tests)
+one_later : {M : Type 0} (tally : Tally M) (bucket : Option ℤ) → (tally_by tally bucket).lines ≡ one_more tally.lines
+one_later tally None = refl
+one_later tally (Some start) = refl
 
-later : (tally : Tally) (own : Option ℤ) → nat_eq (tally_by tally own).lines 0 ≡ false
-later tally None = not_first tally.lines
-later tally (Some start) = not_first tally.lines
+memory_kept : {M : Type 0} (tally : Tally M) (bucket : Option ℤ) → (tally_by tally bucket).memory ≡ tally.memory
+memory_kept tally None = refl
+memory_kept tally (Some start) = refl
 
 -- the last instant stays
-last_kept : (tally : Tally) (bucket : Option ℤ) → (tally_by tally bucket).last ≡ tally.last
+last_kept : {M : Type 0} (tally : Tally M) (bucket : Option ℤ) → (tally_by tally bucket).last ≡ tally.last
 last_kept tally None = refl
 last_kept tally (Some start) = refl
 
 -- no line is left
-ended-none : (c : Counting) (tally : Tally) → ended_lines c false tally [] ≡ count_end c tally
+ended-none : {M : Type 0} (c : Counting M) (tally : Tally M) → ended_lines c false tally [] ≡ count_end c tally
 unfolding count_lines
 ended-none c tally = refl
 
 -- lines, after a tally
-all_add : (c : Counting) (bucket : ℤ) (tally : Tally) (lines : List (List ℕ)) (k : ℕ) → HasAtMost tally.row k → k + length lines ≤ most
+all_add : {M : Type 0} (c : Counting M) (bucket : ℤ) (tally : Tally M) (lines : List (List ℕ)) (k : ℕ) → HasAtMost tally.row k → k + length lines ≤ most
     → length (ended_lines (with_marks c bucket) false tally lines).text ≡ lines_of_row bucket tally.row
-    + lines_in c bucket tally.last (nat_eq tally.lines 0) lines
+    + lines_in c bucket tally.memory tally.lines tally.last lines
 unfolding count_line lines_in
-all_add c bucket tally [] k low high =
-    let last = ap (λ (z : Counted). length z.text) (ended-none (with_marks c bucket) tally) ∙ length-last_row c bucket tally.row in omega (arith, last)
-all_add c bucket tally (line ∷ lines) k low high =
+all_add {M} c bucket tally [] k low high =
+    let last = ap (λ (z : Counted M). length z.text) (ended-none (with_marks c bucket) tally) ∙ length-last_row c bucket tally.row in omega (arith, last)
+all_add {M} c bucket tally (line ∷ lines) k low high =
     let own = instant_at c tally line in
-    let at = tally_at tally line own in
+    let at = tally_at c tally line own in
     let start = bucket_at c own in
     let after = tally_by at start in
     let rows = rows_by (with_marks c bucket) at.row start in
     let next : suc k ≤ most = omega (arith, high) in
-    let whole = ap (λ (z : Counted). length z.text) (first_of (with_marks c bucket) false tally line lines)
+    let whole = ap (λ (z : Counted M). length z.text) (first_of (with_marks c bucket) false tally line lines)
     ∙ length-append rows (ended_lines (with_marks c bucket) false after lines).text in
     let more = all_add c bucket after lines (suc k) (row_at_most at start k low next) (omega (arith, high)) in
-    let rest = more ∙ ap (λ (z : Bool). lines_of_row bucket after.row + lines_in c bucket after.last z lines) (later at start)
-    ∙ ap (λ (z : Option ℤ). lines_of_row bucket after.row + lines_in c bucket z false lines) (last_kept at start) in
+    let rest = more ∙ ap (λ (z : M). lines_of_row bucket after.row + lines_in c bucket z after.lines after.last lines) (memory_kept at start)
+    ∙ ap (λ (z : ℕ). lines_of_row bucket after.row + lines_in c bucket at.memory z after.last lines) (one_later at start)
+    ∙ ap (λ (z : Option ℤ). lines_of_row bucket after.row + lines_in c bucket at.memory (one_more tally.lines) z lines) (last_kept at start) in
     let first = line_adds c bucket at start k low next in
     whole ∙ omega (arith, rest, first)
 
-input-lines : (c : Counting) (input : List ℕ) → count_input c false input ≡ ended_lines c false first_tally (lines_of input)
+input-lines : {M : Type 0} (c : Counting M) (input : List ℕ) → count_input c false input ≡ ended_lines c false (first_tally c) (lines_of input)
 unfolding count_input
 input-lines c input = refl
 
-pub counts-add_up : (c : Counting) (bucket : ℤ) (input : List ℕ) → length (lines_of input) ≤ most
-    → length (count_input (with_marks c bucket) false input).text ≡ lines_in c bucket None true (lines_of input)
-counts-add_up c bucket input few =
-    let sum = ap (λ (z : Counted). length z.text) (input-lines (with_marks c bucket) input)
-    ∙ all_add c bucket first_tally (lines_of input) 0 tt (omega (arith, few)) in
+pub counts-add_up : {M : Type 0} (c : Counting M) (bucket : ℤ) (input : List ℕ) → length (lines_of input) ≤ most
+    → length (count_input (with_marks c bucket) false input).text ≡ lines_in c bucket c.memory 0 None (lines_of input)
+counts-add_up {M} c bucket input few =
+    let sum = ap (λ (z : Counted M). length z.text) (input-lines (with_marks c bucket) input)
+    ∙ all_add c bucket (first_tally c) (lines_of input) 0 tt (omega (arith, few)) in
     omega (arith, sum)

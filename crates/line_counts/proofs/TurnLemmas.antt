@@ -16,8 +16,8 @@ use Rattle.line_counts.specs.declared.tallies.Tally.{Tally}
 use Rattle.line_counts.proofs.StandLemmas.{stands_first, written_open}
 
 -- before anything is read
-pub GoesOn-first : (c : Counting) (s : Bool) (at : Devices) (pending : List ℕ) (work : Work) → at.read_failed ≡ false → at.write_failed ≡ false
-    → pending ≡ [] → work.tally ≡ first_tally → work.head ≡ [] → GoesOn c s at at pending work []
+pub GoesOn-first : {M : Type 0} (c : Counting M) (s : Bool) (at : Devices) (pending : List ℕ) (work : Work M) → at.read_failed ≡ false → at.write_failed ≡ false
+    → pending ≡ [] → work.tally ≡ (first_tally c) → work.head ≡ [] → GoesOn c s at at pending work []
 GoesOn-first c s at pending work r w none t h = record {
   consumed = Consumes-nil at.left;
   stands = stands_first c s at.written pending work t h none;
@@ -27,7 +27,7 @@ GoesOn-first c s at pending work r w none t h = record {
 }
 
 -- a read failed
-pub read_fails : (c : Counting) (s : Bool) (first old now : Devices) (pending : List ℕ) (work : Work) (taken : List ℕ)
+pub read_fails : {M : Type 0} (c : Counting M) (s : Bool) (first old now : Devices) (pending : List ℕ) (work : Work M) (taken : List ℕ)
     → GoesOn c s first old pending work taken → Keeps old.left now.left → now.read_failed ≡ true → now.written ≡ old.written
     → now.write_failed ≡ old.write_failed → StopsAtRead c s first now
 read_fails c s first old now pending work taken h left r same w = record {
@@ -41,7 +41,7 @@ read_fails c s first old now pending work taken h left r same w = record {
 }
 
 -- so many reads reached no end
-pub reads_end : (c : Counting) (s : Bool) (first now : Devices) (pending : List ℕ) (work : Work) (taken : List ℕ) (turns : ℕ)
+pub reads_end : {M : Type 0} (c : Counting M) (s : Bool) (first now : Devices) (pending : List ℕ) (work : Work M) (taken : List ℕ) (turns : ℕ)
     → GoesOn c s first now pending work taken → turns ≤ length taken → 2 ^ 64 - 1 ≤ turns → StopsAtRead c s first now
 reads_end c s first now pending work taken turns h long most = record {
   read_failed = inr (input-long first.left now.left taken turns _ h.consumed long most);
@@ -50,7 +50,7 @@ reads_end c s first now pending work taken turns h long most = record {
 }
 
 -- a block more was taken in
-pub block_taken : (c : Counting) (s : Bool) (first old now : Devices) (pending pending' : List ℕ) (work work' : Work) (taken block : List ℕ)
+pub block_taken : {M : Type 0} (c : Counting M) (s : Bool) (first old now : Devices) (pending pending' : List ℕ) (work work' : Work M) (taken block : List ℕ)
     → GoesOn c s first old pending work taken → Consumes old.left now.left block
     → Stands c s first.written now.written pending' work' (taken ++ block) → pending' ≡ [] → now.read_failed ≡ old.read_failed
     → now.write_failed ≡ old.write_failed → GoesOn c s first now pending' work' (taken ++ block)
@@ -63,7 +63,7 @@ block_taken c s first old now pending pending' work work' taken block h read sta
 }
 
 -- all of the input was taken in
-pub input_ends : (c : Counting) (s : Bool) (first old now : Devices) (pending : List ℕ) (work : Work) (taken : List ℕ) (tally : Tally)
+pub input_ends : {M : Type 0} (c : Counting M) (s : Bool) (first old now : Devices) (pending : List ℕ) (work : Work M) (taken : List ℕ) (tally : Tally M)
     → GoesOn c s first old pending work taken → Consumes old.left now.left [] → IsAtEnd now.left
     → Completes c s first.written now.written taken tally → now.read_failed ≡ old.read_failed
     → now.write_failed ≡ old.write_failed → EndsWell c s first now tally
@@ -75,7 +75,7 @@ input_ends c s first old now pending work taken tally h none end completes r w =
 }
 
 -- a fault ended the work
-falls : (c : Counting) (s : Bool) (first old now : Devices) (pending : List ℕ) (work : Work) (taken input : List ℕ) (fault : CountFault)
+falls : {M : Type 0} (c : Counting M) (s : Bool) (first old now : Devices) (pending : List ℕ) (work : Work M) (taken input : List ℕ) (fault : CountFault)
     → GoesOn c s first old pending work taken → Ends c s first.written now.written fault input
     → IfSome first.left (λ input. Ends c s first.written now.written fault input) → now.read_failed ≡ old.read_failed
     → now.write_failed ≡ mark_of fault old.write_failed → Finishes (Err fault) c s first now
@@ -87,7 +87,8 @@ falls c s first old now pending work taken input (Back line) h one ends r w =
     record { ends = ends; mark_is = w ∙ h.no_write_failed; no_read_failed = r ∙ h.no_read_failed }
 
 -- on a block
-pub block_falls : (c : Counting) (s : Bool) (first old now : Devices) (pending : List ℕ) (work : Work) (taken block : List ℕ) (fault : CountFault)
+pub block_falls : {M : Type 0} (c : Counting M) (s : Bool) (first old now : Devices) (pending : List ℕ) (work : Work M) (taken block : List ℕ) (fault :
+    CountFault)
     → GoesOn c s first old pending work taken → Consumes old.left now.left block
     → ((more : List ℕ) → Ends c s first.written now.written fault ((taken ++ block) ++ more)) → now.read_failed ≡ old.read_failed
     → now.write_failed ≡ mark_of fault old.write_failed → Finishes (Err fault) c s first now
@@ -97,25 +98,12 @@ block_falls c s first old now pending work taken block fault h read ends r w =
     (input-begin first.left now.left (taken ++ block) (λ input. Ends c s first.written now.written fault input) consumed ends) r w
 
 -- after the last one
-pub end_falls : (c : Counting) (s : Bool) (first old now : Devices) (pending : List ℕ) (work : Work) (taken : List ℕ) (fault : CountFault)
+pub end_falls : {M : Type 0} (c : Counting M) (s : Bool) (first old now : Devices) (pending : List ℕ) (work : Work M) (taken : List ℕ) (fault : CountFault)
     → GoesOn c s first old pending work taken → Consumes old.left now.left [] → IsAtEnd now.left → Ends c s first.written now.written fault taken
     → now.read_failed ≡ old.read_failed → now.write_failed ≡ mark_of fault old.write_failed → Finishes (Err fault) c s first now
 end_falls c s first old now pending work taken fault h none end ends r w =
     falls c s first old now pending work taken taken fault h ends
     (input-end first.left old.left now.left taken (λ input. Ends c s first.written now.written fault input) h.consumed none end ends) r w
-
--- the end of the work, as it ends
-pub finishes : (c : Counting) (s : Bool) (first old now : Devices) (pending : List ℕ) (work : Work) (taken : List ℕ)
-    (result : Result Tally CountFault) → GoesOn c s first old pending work taken → Consumes old.left now.left [] → IsAtEnd now.left
-    → IfOk result (λ tally. (base : Option (List ℕ)) (input : List ℕ) → Stands c s base old.written pending work input
-    → Completes c s base now.written input tally)
-    → IfErr result (λ fault. (base : Option (List ℕ)) (input : List ℕ) → Stands c s base old.written pending work input
-    → Ends c s base now.written fault input) → now.read_failed ≡ old.read_failed → now.write_failed ≡ mark_after result old.write_failed
-    → Finishes result c s first now
-finishes c s first old now pending work taken (Ok tally) h none end completes ends r w =
-    input_ends c s first old now pending work taken tally h none end (completes first.written taken h.stands) r w
-finishes c s first old now pending work taken (Err fault) h none end completes ends r w =
-    end_falls c s first old now pending work taken fault h none end (ends first.written taken h.stands) r w
 
 pub some_count : (n : ℕ) → n ≢ 0 → 0 < n
 some_count zero e = absurd (e refl)

@@ -25,36 +25,38 @@ mark_after (Ok done) mark = mark
 mark_after (Err fault) mark = mark_of fault mark
 
 -- after a fault that ended the work: a beginning of a text was written and not all, or all of it and the fault is the one of the text
-abbrev pub Falls : CountFault → Counted → Option (List ℕ) → Option (List ℕ) → List ℕ → Type 0
+abbrev pub Falls : {M : Type 0} → CountFault → Counted M → Option (List ℕ) → Option (List ℕ) → List ℕ → Type 0
 Falls Write run old new before = AppendsBeginning old new (before ++ run.text)
 Falls Read run old new before = ⊥
 Falls (Missing line) run old new before = Appends old new (before ++ run.text) × (run.end ≡ Err (Missing line))
 Falls (Back line) run old new before = Appends old new (before ++ run.text) × (run.end ≡ Err (Back line))
 
 -- a line was counted, and its text sent
-abbrev pub Takes : Result Unit CountFault → Counted → Tally → Option (List ℕ) → Option (List ℕ) → List ℕ → List ℕ → Type 0
+abbrev pub Takes : {M : Type 0} → Result Unit CountFault → Counted M → Tally M → Option (List ℕ) → Option (List ℕ) → List ℕ → List ℕ → Type 0
 Takes result run tally old new was_pending pending =
     MatchResult result (λ _. Sends old new pending (was_pending ++ run.text) × (run.end ≡ Ok tally)) (λ fault. Falls fault run old new was_pending)
 
 -- the lines that ended were counted, and the beginning of the last one is kept
-pub record Stands (counting : Counting) (is_strict : Bool) (base now : Option (List ℕ)) (pending : List ℕ) (work : Work) (taken : List ℕ) : Type 0 where
+pub record Stands {M : Type 0} (counting : Counting M) (is_strict : Bool) (base now : Option (List ℕ)) (pending : List ℕ) (work : Work M) (taken : List ℕ) :
+    Type 0 where
   pub text : List ℕ
-  pub lines : count_lines counting is_strict first_tally (ended_from [] taken) ≡ outcome text (Ok work.tally)
-  pub head : work.head ≡ take 1027 (rest_from [] taken)
+  pub lines : count_lines counting is_strict (first_tally counting) (ended_from [] taken) ≡ outcome text (Ok work.tally)
+  pub head : work.head ≡ take 65536 (rest_from [] taken)
   pub sent : Sends base now pending text
 
 -- the output for an input was written: a beginning and not all, or all of it up to the line that ended the run
-abbrev pub Ends : Counting → Bool → Option (List ℕ) → Option (List ℕ) → CountFault → List ℕ → Type 0
+abbrev pub Ends : {M : Type 0} → Counting M → Bool → Option (List ℕ) → Option (List ℕ) → CountFault → List ℕ → Type 0
 Ends counting is_strict base now fault input = Falls fault (count_input counting is_strict input) base now []
 
 -- all lines of an input were counted, and the rows that they end were sent
-pub record AllSent (counting : Counting) (is_strict : Bool) (base now : Option (List ℕ)) (pending : List ℕ) (tally : Tally) (input : List ℕ) : Type 0 where
+pub record AllSent {M : Type 0} (counting : Counting M) (is_strict : Bool) (base now : Option (List ℕ)) (pending : List ℕ) (tally : Tally M) (input : List
+    ℕ) : Type 0 where
   pub text : List ℕ
-  pub lines : count_lines counting is_strict first_tally (lines_of input) ≡ outcome text (Ok tally)
+  pub lines : count_lines counting is_strict (first_tally counting) (lines_of input) ≡ outcome text (Ok tally)
   pub sent : Sends base now pending text
 
 -- all of the output for an input was written, no line ended the run, and the lines without a stamp are those of the input
-pub record Completes (counting : Counting) (is_strict : Bool) (base now : Option (List ℕ)) (input : List ℕ) (tally : Tally) : Type 0 where
+pub record Completes {M : Type 0} (counting : Counting M) (is_strict : Bool) (base now : Option (List ℕ)) (input : List ℕ) (tally : Tally M) : Type 0 where
   pub written : Appends base now (count_input counting is_strict input).text
   pub well : (count_input counting is_strict input).end ≡ Ok tally
   pub stamps : tally.stamps ≡ stamp_tally counting input

@@ -1,29 +1,43 @@
 //! Buckets of time.
 ghost use Rattle.std.specs.Prelude.{◌≡◌, ◌≤◌, ◌/◌, ◌+ℤ◌, pos, ℕ, ℤ, Bool, List, Option, take};
 ghost use Rattle.calendar_values.specs.WallClock.{IsWallClock};
+ghost use Rattle.line_devices.specs.declared.stamp_tallies.LineKind.{LineKind};
 ghost use Rattle.line_counts.specs.Counting.{Counting, empty_count, most};
 ghost use Rattle.line_counts.specs.Steps.{step_of};
 
 use calendar_values::Text;
+use line_devices::stamp_tallies::LineKind;
 use utc_times::UtcDateTime;
 
 /// The most bytes of a line that decide on its instant.
-pub const LONGEST_HEAD: usize = 1_027;
+pub const LONGEST_HEAD: usize = 65_536;
 
 /// Puts lines into buckets of time, and writes their rows.
 pub trait Buckets {
-    /// How it does.
-    ghost counting: { Self → Counting };
+    /// The memory of the lines before a line.
+    type Memory: Drop;
 
-    /// Returns the instant of a line, if it has one: by the last instant before it, and by whether
-    /// it is the first line.
+    /// How it does.
+    ghost counting: { Self → Counting Self.Memory };
+
+    /// Returns the memory before the first line.
+    fn first_memory(&self) -> Self::Memory
+        ensures { result ≡ (counting self.now).memory };
+
+    /// Returns the instant of a line, if it has one: by the memory and the last instant of the
+    /// lines before it, and by whether it is the first.
     fn instant_of(
         &self,
+        memory: &Self::Memory,
         last: Option<UtcDateTime>,
         is_first: bool,
         line: &[u8],
     ) -> Option<UtcDateTime>
-        ensures { result ≡ (counting self.now).instant last is_first line.now };
+        ensures { result ≡ (counting self.now).instant memory.now last is_first line.now };
+
+    /// Brings the memory up to a line, by its number and by how it counts.
+    fn remember(&self, memory: &mut Self::Memory, number: u64, kind: LineKind, line: &[u8])
+        ensures { memory.new ≡ (counting self.now).after memory.old number kind line.now };
 
     /// Returns the bucket of an instant, if it has one: the instant at which the bucket starts.
     fn bucket_of(&self, at: UtcDateTime) -> Option<UtcDateTime>
@@ -49,10 +63,17 @@ pub trait Buckets {
     fn text_in_place(&self, count: u64) -> Text
         ensures { result ≡ (counting self.now).in_place count };
 
-    /// The first 1,027 bytes of a line decide on its instant.
-    ghost by_head: { (buckets : Self) (last : Option ℤ) (is_first : Bool) (line : List ℕ)
-        → (counting buckets).instant last is_first (take 1027 line)
-        ≡ (counting buckets).instant last is_first line };
+    /// The first 65,536 bytes of a line decide on its instant.
+    ghost by_head: { (buckets : Self) (memory : Self.Memory) (last : Option ℤ) (is_first : Bool)
+        (line : List ℕ)
+        → (counting buckets).instant memory last is_first (take 65536 line)
+        ≡ (counting buckets).instant memory last is_first line };
+
+    /// They also decide on the memory after it.
+    ghost remembers_head: { (buckets : Self) (memory : Self.Memory) (number : ℕ) (kind : LineKind)
+        (line : List ℕ)
+        → (counting buckets).after memory number kind (take 65536 line)
+        ≡ (counting buckets).after memory number kind line };
 }
 
 /// Returns the number of steps of one length, in nanoseconds and a minute at least, from an instant

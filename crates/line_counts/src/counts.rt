@@ -25,7 +25,7 @@ pub fn count<B: Buckets, R: Source, W: Sink>(
     is_strict: bool,
     reader: &mut R,
     writer: &mut W,
-) -> Result<Tally, CountFault>
+) -> Result<Tally<B::Memory>, CountFault>
     requires reader { R.is_marked reader.old ≡ false }
     requires writer { W.is_marked writer.old ≡ false }
     ensures { Finishes result (B.counting buckets.now) is_strict
@@ -35,14 +35,15 @@ pub fn count<B: Buckets, R: Source, W: Sink>(
         (R.is_marked reader.new) (W.is_marked writer.new)) }
 {
     let mut block = [0u8; BLOCK];
-    let mut work = Work::new();
+    let mut work = Work::new(buckets);
     let mut pending = Pending::new(0);
     'reads: for _turn in 0..u64::MAX {
         let Ok(count) = reader.read_some(&mut block) else {
             return Err(CountFault::Read);
         };
         if count == 0 {
-            return finish(buckets, is_strict, writer, &mut pending, &mut work);
+            finish(buckets, is_strict, writer, &mut pending, &mut work)?;
+            return Ok(work.tally);
         }
         feed(
             buckets,

@@ -16,21 +16,21 @@ pub type Head = Table<u8, LONGEST_HEAD>;
 
 /// The state after the bytes that were read.
 #[derive(Drop)]
-pub struct Work {
+pub struct Work<M> {
     /// The state after the lines that ended.
-    pub tally: Tally,
+    pub tally: Tally<M>,
     /// The first bytes of the last line.
     pub head: Head,
 }
 
-impl Work {
+impl<M> Work<M> {
     /// Returns the state before anything is read.
-    pub(crate) fn new() -> Work
-        ensures tally { result.tally ≡ first_tally }
+    pub(crate) fn new<B: Buckets<Memory = M>>(buckets: &B) -> Work<M>
+        ensures tally { result.tally ≡ first_tally (B.counting buckets.now) }
         ensures head { result.head ≡ [] }
     {
         Work {
-            tally: Tally::first(),
+            tally: Tally::first(buckets),
             head: Head::new(0),
         }
     }
@@ -42,7 +42,7 @@ pub(crate) fn feed<B: Buckets, W: Sink>(
     is_strict: bool,
     writer: &mut W,
     pending: &mut Pending,
-    work: &mut Work,
+    work: &mut Work<B::Memory>,
     block: &[u8],
 ) -> Result<(), CountFault>
     ensures stands { IsOk result → (base : Option (List ℕ)) (taken : List ℕ)
@@ -73,7 +73,7 @@ fn take_front<B: Buckets, W: Sink>(
     is_strict: bool,
     writer: &mut W,
     pending: &mut Pending,
-    work: &mut Work,
+    work: &mut Work<B::Memory>,
     text: &[u8],
 ) -> Result<usize, CountFault>
     requires { 0 < length text.now }
@@ -107,20 +107,19 @@ fn take_front<B: Buckets, W: Sink>(
     Ok(end + 1)
 }
 
-/// Counts the last line, if no line feed ends it, and writes all rows. Returns the tally of all
-/// lines.
+/// Counts the last line, if no line feed ends it, and writes all rows.
 pub(crate) fn finish<B: Buckets, W: Sink>(
     buckets: &B,
     is_strict: bool,
     writer: &mut W,
     pending: &mut Pending,
-    work: &mut Work,
-) -> Result<Tally, CountFault>
-    ensures completes { IfOk result (λ tally. (base : Option (List ℕ)) (taken : List ℕ)
+    work: &mut Work<B::Memory>,
+) -> Result<(), CountFault>
+    ensures completes { IsOk result → (base : Option (List ℕ)) (taken : List ℕ)
         → Stands (B.counting buckets.now) is_strict base (W.written writer.old)
         pending.old work.old taken
         → Completes (B.counting buckets.now) is_strict base (W.written writer.new)
-        taken tally) }
+        taken work.new.tally }
     ensures ends { IfErr result (λ fault. (base : Option (List ℕ)) (taken : List ℕ)
         → Stands (B.counting buckets.now) is_strict base (W.written writer.old)
         pending.old work.old taken
@@ -130,7 +129,7 @@ pub(crate) fn finish<B: Buckets, W: Sink>(
     take_rest(buckets, is_strict, writer, pending, work)?;
     send_last(buckets, writer, pending, &work.tally)?;
     flush(writer, pending)?;
-    Ok(work.tally)
+    Ok(())
 }
 
 // Counts the last line, if no line feed ends it.
@@ -139,7 +138,7 @@ fn take_rest<B: Buckets, W: Sink>(
     is_strict: bool,
     writer: &mut W,
     pending: &mut Pending,
-    work: &mut Work,
+    work: &mut Work<B::Memory>,
 ) -> Result<(), CountFault>
     ensures sent { IsOk result → (base : Option (List ℕ)) (taken : List ℕ)
         → Stands (B.counting buckets.now) is_strict base (W.written writer.old)

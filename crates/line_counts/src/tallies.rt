@@ -1,16 +1,16 @@
 //! The rows that lines make.
 ghost use Rattle.std.specs.Ordering.{int_eq};
-ghost use Rattle.std.specs.Prelude.{◌≡◌, ◌++◌, int_lt, Some};
+ghost use Rattle.std.specs.Prelude.{◌≡◌, ◌++◌, int_lt, None, Some};
 ghost use Rattle.line_devices.specs.Writing.{MarksFailure, SendsAll};
 ghost use Rattle.line_counts.specs.Counting.{most};
 ghost use Rattle.line_counts.specs.Counts.{back_of, bucket_at, count_line, empty_rows, empty_run, ended_rows, fault_of, first_tally, goes_back, last_row};
-ghost use Rattle.line_counts.specs.Counts.{row_after, rows_by, tally_after, tally_at, tally_by, tally_passed};
+ghost use Rattle.line_counts.specs.Counts.{one_more, row_after, rows_by, tally_after, tally_at, tally_by, tally_passed};
 ghost use Rattle.line_counts.specs.Progress.{Takes, mark_after};
 
 use crate::buckets::Buckets;
 use line_devices::devices::{DeviceFault, Sink};
 use line_devices::sending::{Pending, flush, send};
-use line_devices::stamp_tallies::{StampTally, kind_of};
+use line_devices::stamp_tallies::{LineKind, StampTally, kind_of};
 use utc_times::UtcDateTime;
 
 /// The row of lines of one bucket.
@@ -23,8 +23,8 @@ pub struct Row {
 }
 
 /// The state after lines.
-#[derive(Clone, Copy, Debug)]
-pub struct Tally {
+#[derive(Drop)]
+pub struct Tally<M> {
     /// Their number, at most 2^64 - 1.
     pub lines: u64,
     /// The last of their instants.
@@ -35,6 +35,8 @@ pub struct Tally {
     pub back: Option<u64>,
     /// How many of them have no stamp.
     pub stamps: StampTally,
+    /// The memory of them.
+    pub memory: M,
 }
 
 /// The reason why a count ended before the end of the input.
@@ -60,10 +62,10 @@ impl From<DeviceFault> for CountFault {
     }
 }
 
-impl Tally {
+impl<M> Tally<M> {
     /// Returns the tally before the first line.
-    pub(crate) fn first() -> Tally
-        ensures { result ≡ first_tally }
+    pub(crate) fn first<B: Buckets<Memory = M>>(buckets: &B) -> Tally<M>
+        ensures { result ≡ first_tally (B.counting buckets.now) }
     {
         Tally {
             lines: 0,
@@ -71,6 +73,7 @@ impl Tally {
             row: None,
             back: None,
             stamps: StampTally::new(),
+            memory: buckets.first_memory(),
         }
     }
 }
@@ -82,15 +85,15 @@ pub(crate) fn take_line<B: Buckets, W: Sink>(
     is_strict: bool,
     writer: &mut W,
     pending: &mut Pending,
-    tally: &mut Tally,
+    tally: &mut Tally<B::Memory>,
     line: &[u8],
 ) -> Result<(), CountFault>
     ensures takes { Takes result (count_line (B.counting buckets.now) is_strict tally.old line.now)
         tally.new (W.written writer.old) (W.written writer.new) pending.old pending.new }
     ensures mark { W.is_marked writer.new ≡ mark_after result (W.is_marked writer.old) }
 {
-    let own = buckets.instant_of(tally.last, tally.lines == 0, line);
-    note(tally, line, &own);
+    let own = buckets.instant_of(&tally.memory, tally.last, tally.lines == 0, line);
+    note(buckets, tally, line, &own);
     let bucket = bucket_at(buckets, &own);
     if let Some(fault) = fault_of(is_strict, tally, &bucket) {
         send_last(buckets, writer, pending, tally)?;
@@ -98,20 +101,43 @@ pub(crate) fn take_line<B: Buckets, W: Sink>(
         return Err(fault);
     }
     send_by(buckets, writer, pending, tally, &bucket)?;
-    let after = tally_by(tally, &bucket);
-    *tally = after;
+    pass_line(tally, &bucket);
     Ok(())
 }
 
 // Keeps the instant of a line as the last one, if it has one, and counts the line by its stamp.
-fn note(tally: &mut Tally, line: &[u8], own: &Option<UtcDateTime>)
-    ensures { tally.new ≡ tally_at tally.old line.now own.now }
+fn note<B: Buckets>(
+    buckets: &B,
+    tally: &mut Tally<B::Memory>,
+    line: &[u8],
+    own: &Option<UtcDateTime>,
+)
+    ensures { tally.new ≡ tally_at (B.counting buckets.now) tally.old line.now own.now }
 {
     let number = tally.lines.saturating_add(1);
-    tally.stamps = tally.stamps.after(number, kind_of(line, own.is_some()));
     if own.is_some() {
+        tally.stamps.texts = tally.stamps.texts.saturating_add(1);
         tally.last = *own;
+        buckets.remember(&mut tally.memory, number, LineKind::Stamped, line);
+    } else {
+        note_without_stamp(buckets, tally, number, line);
     }
+}
+
+// Counts a line of this number without a stamp.
+#[inline(never)]
+fn note_without_stamp<B: Buckets>(
+    buckets: &B,
+    tally: &mut Tally<B::Memory>,
+    number: u64,
+    line: &[u8],
+)
+    requires { number ≡ one_more tally.old.lines }
+    ensures { tally.new ≡ tally_at (B.counting buckets.now) tally.old line.now None }
+{
+    let kind = kind_of(line, false);
+    tally.stamps = tally.stamps.after(number, kind);
+    buckets.remember(&mut tally.memory, number, kind, line);
 }
 
 // The bucket of a line, by its instant.
@@ -125,7 +151,11 @@ fn bucket_at<B: Buckets>(buckets: &B, own: &Option<UtcDateTime>) -> Option<UtcDa
 }
 
 // The fault of a line if the run is strict.
-fn fault_of(is_strict: bool, tally: &Tally, bucket: &Option<UtcDateTime>) -> Option<CountFault>
+fn fault_of<M>(
+    is_strict: bool,
+    tally: &Tally<M>,
+    bucket: &Option<UtcDateTime>,
+) -> Option<CountFault>
     ensures { result ≡ fault_of is_strict tally.now bucket.now }
 {
     if !is_strict {
@@ -163,18 +193,14 @@ fn is_same(first: UtcDateTime, second: UtcDateTime) -> bool
     first == second
 }
 
-// The tally after a line of a bucket.
-fn tally_after(tally: &Tally, start: UtcDateTime) -> Tally
-    ensures { result ≡ tally_after tally.now start }
+// Brings the tally up to a line of a bucket.
+fn pass_in_bucket<M>(tally: &mut Tally<M>, start: UtcDateTime)
+    ensures { tally.new ≡ tally_after tally.old start }
 {
     let number = tally.lines.saturating_add(1);
-    Tally {
-        lines: number,
-        last: tally.last,
-        row: Some(row_after(&tally.row, start)),
-        back: tally.back.or(back_of(goes_back(&tally.row, start), number)),
-        stamps: tally.stamps,
-    }
+    tally.lines = number;
+    tally.back = tally.back.or(back_of(goes_back(&tally.row, start), number));
+    tally.row = Some(row_after(&tally.row, start));
 }
 
 // The number of a line that goes back.
@@ -184,26 +210,20 @@ fn back_of(goes_back: bool, number: u64) -> Option<u64>
     if goes_back { Some(number) } else { None }
 }
 
-// The tally after a line without a bucket.
-fn tally_passed(tally: &Tally) -> Tally
-    ensures { result ≡ tally_passed tally.now }
+// Brings the tally up to a line without a bucket.
+fn pass_over<M>(tally: &mut Tally<M>)
+    ensures { tally.new ≡ tally_passed tally.old }
 {
-    Tally {
-        lines: tally.lines.saturating_add(1),
-        last: tally.last,
-        row: tally.row,
-        back: tally.back,
-        stamps: tally.stamps,
-    }
+    tally.lines = tally.lines.saturating_add(1);
 }
 
-// The tally after a line, by its bucket.
-fn tally_by(tally: &Tally, bucket: &Option<UtcDateTime>) -> Tally
-    ensures { result ≡ tally_by tally.now bucket.now }
+// Brings the tally up to a line, by its bucket.
+fn pass_line<M>(tally: &mut Tally<M>, bucket: &Option<UtcDateTime>)
+    ensures { tally.new ≡ tally_by tally.old bucket.now }
 {
     match bucket {
-        Some(start) => tally_after(tally, *start),
-        None => tally_passed(tally),
+        Some(start) => pass_in_bucket(tally, *start),
+        None => pass_over(tally),
     }
 }
 
@@ -225,7 +245,7 @@ pub(crate) fn send_last<B: Buckets, W: Sink>(
     buckets: &B,
     writer: &mut W,
     pending: &mut Pending,
-    tally: &Tally,
+    tally: &Tally<B::Memory>,
 ) -> Result<(), DeviceFault>
     ensures sent { SendsAll result (W.written writer.old) (W.written writer.new)
         pending.new (pending.old ++ last_row (B.counting buckets.now) tally.now.row) }
@@ -258,7 +278,7 @@ fn send_by<B: Buckets, W: Sink>(
     buckets: &B,
     writer: &mut W,
     pending: &mut Pending,
-    tally: &Tally,
+    tally: &Tally<B::Memory>,
     bucket: &Option<UtcDateTime>,
 ) -> Result<(), DeviceFault>
     ensures sent { SendsAll result (W.written writer.old) (W.written writer.new)

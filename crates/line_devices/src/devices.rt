@@ -81,6 +81,13 @@ impl<T> Device<T> {
         }
     }
 
+    /// The reader or the writer.
+    pub fn inner(&self) -> &T
+        ensures { result.now ≡ inner_of self.now }
+    {
+        &self.inner
+    }
+
     /// Whether a line feed is the last byte that was written to it, or no byte was.
     pub fn is_at_line_start(&self) -> bool
         ensures { result ≡ is_at_start (last_of self.now) }

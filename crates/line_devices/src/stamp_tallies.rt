@@ -1,6 +1,9 @@
 //! Tallies of lines by their stamps.
 ghost use Rattle.std.specs.Prelude.{◌≡◌};
-ghost use Rattle.line_devices.specs.StampTallies.{first_tally, is_continuation, is_due, is_empty_line, is_poor, kind_of, line_or, tally_after};
+ghost use Rattle.line_devices.specs.StampTallies.{first_tally, is_continuation, is_due, is_empty_line, is_poor, kind_of, line_or, tally_after, with_missing};
+
+/// The most bytes of a line in which a stamp ends.
+pub const LONGEST_STAMP: usize = 65_500;
 
 /// How a line counts.
 #[derive(Clone, Copy, Debug, PartialEq, Eq)]
@@ -13,9 +16,12 @@ pub enum LineKind {
     Continued,
     /// It has no text: no byte, or a carriage return alone.
     Empty,
+    /// It has no stamp in its first 65,500 bytes, and more bytes than these.
+    Long,
 }
 
-/// The kind of a line, by its bytes, or by two of them at least, and by whether it has a stamp.
+/// The kind of a line, by its bytes, or by the first 65,501 of them at least, and by whether it has
+/// a stamp.
 #[inline(always)]
 pub fn kind_of(line: &[u8], has_stamp: bool) -> LineKind
     ensures { result ≡ kind_of line.now has_stamp }
@@ -24,6 +30,8 @@ pub fn kind_of(line: &[u8], has_stamp: bool) -> LineKind
         LineKind::Stamped
     } else if is_empty_line(line) {
         LineKind::Empty
+    } else if line.len() > LONGEST_STAMP {
+        LineKind::Long
     } else if is_continuation(line) {
         LineKind::Continued
     } else {
@@ -55,7 +63,8 @@ fn is_continuation(line: &[u8]) -> bool
 /// The number of the lines of each kind, each at most 2^64 - 1.
 #[derive(Clone, Copy, Debug, PartialEq, Eq)]
 pub struct StampTally {
-    /// The lines that have a stamp, and those that have text and continue no other.
+    /// The lines that have a stamp, and those that have text and continue no other. Long lines are
+    /// among them.
     pub texts: u64,
     /// Those of them without a stamp.
     pub missing: u64,
@@ -63,6 +72,10 @@ pub struct StampTally {
     pub first: Option<u64>,
     /// The lines without a stamp that continue others.
     pub continued: u64,
+    /// The long lines, which may have a stamp past their first 65,500 bytes.
+    pub long: u64,
+    /// The number of the first of these.
+    pub first_long: Option<u64>,
 }
 
 impl StampTally {
@@ -75,6 +88,8 @@ impl StampTally {
             missing: 0,
             first: None,
             continued: 0,
+            long: 0,
+            first_long: None,
         }
     }
 
@@ -86,23 +101,32 @@ impl StampTally {
         match kind {
             LineKind::Stamped => StampTally {
                 texts: self.texts.saturating_add(1),
-                missing: self.missing,
-                first: self.first,
-                continued: self.continued,
+                ..self
             },
-            LineKind::Bare => StampTally {
-                texts: self.texts.saturating_add(1),
-                missing: self.missing.saturating_add(1),
-                first: line_or(self.first, number),
-                continued: self.continued,
-            },
+            LineKind::Bare => self.with_missing(number),
             LineKind::Continued => StampTally {
-                texts: self.texts,
-                missing: self.missing,
-                first: self.first,
                 continued: self.continued.saturating_add(1),
+                ..self
             },
             LineKind::Empty => self,
+            LineKind::Long => StampTally {
+                long: self.long.saturating_add(1),
+                first_long: line_or(self.first_long, number),
+                ..self.with_missing(number)
+            },
+        }
+    }
+
+    // The tally with one more line of text without a stamp, which has this number.
+    #[inline(always)]
+    fn with_missing(self, number: u64) -> StampTally
+        ensures { result ≡ with_missing self number }
+    {
+        StampTally {
+            texts: self.texts.saturating_add(1),
+            missing: self.missing.saturating_add(1),
+            first: line_or(self.first, number),
+            ..self
         }
     }
 

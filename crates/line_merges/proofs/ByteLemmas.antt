@@ -5,8 +5,8 @@ use Rattle.std.proofs.lemmas.Bool.{cases_Bool, eqb-true}
 use Rattle.std.specs.List.{concat}
 use Rattle.line_devices.specs.LineParts.{ended_from, rest_from}
 use Rattle.line_merges.proofs.LineLemmas.{lines_from-parts}
-use Rattle.line_merges.specs.Instants.{LogInstants}
-use Rattle.line_merges.specs.Lines.{Line, line_at, line_text, lines_at, log_lines, first_place, place_after}
+use Rattle.line_merges.specs.Instants.{LogReading}
+use Rattle.line_merges.specs.Lines.{Line, line_at, line_text, lines_at, log_lines, first_place, place_after, reading_after}
 use Rattle.line_merges.specs.declared.logs.Place.{Place}
 
 -- a line with its line feed
@@ -26,16 +26,17 @@ pieces-joined piece (byte ∷ bytes) =
       | inr t ↦ rw t (pieces-joined (piece ++ byte ∷ []) bytes ∙ append_assoc piece (byte ∷ []) bytes)
     ]
 
-lines_at-joined : (instant : LogInstants) (place : Place) (lines : List (List ℕ)) (rest : List ℕ)
+lines_at-joined : {M : Type 0} (instant : LogReading M) (place : Place) (lines : List (List ℕ)) (rest : List ℕ)
     → concat (map line_text (lines_at instant place lines rest)) ≡ concat (map fed lines) ++ rest
 unfolding lines_at
 lines_at-joined instant place [] [] = refl
 lines_at-joined instant place [] (byte ∷ rest) = append-nil ((byte ∷ rest) ++ []) ∙ append-nil (byte ∷ rest)
 lines_at-joined instant place (line ∷ lines) rest =
-    ap (λ (z : List ℕ). fed line ++ z) (lines_at-joined instant (place_after place (line_at instant place line true)) lines rest)
+    ap (λ (z : List ℕ). fed line ++ z) (lines_at-joined (reading_after instant (line_at instant place line true)) (place_after place
+    (line_at instant place line true)) lines rest)
     ∙ sym (append_assoc (fed line) (concat (map fed lines)) rest)
 
-pub lines-keep : (instant : LogInstants) (log : List ℕ) → concat (map line_text (log_lines instant log)) ≡ log
+pub lines-keep : {M : Type 0} (instant : LogReading M) (log : List ℕ) → concat (map line_text (log_lines instant log)) ≡ log
 unfolding log_lines
 lines-keep instant log =
     ap (λ (z : List Line). concat (map line_text z)) (lines_from-parts instant first_place log)

@@ -88,11 +88,11 @@ best-taken k fronts (Some best) front e line better h = record {
   first = λ j other low f some. before-trans front.next best.1 other.next better (h.least j other low f some);
 }
 
-pub fronts-at : {R : Type 0} (logs : List (Log R)) (k : ℕ) (log : Log R) → k < length logs → log ≡ get_or logs k log
+pub fronts-at : {M : Type 0} {R : Type 0} (logs : List (Log R M)) (k : ℕ) (log : Log R M) → k < length logs → log ≡ get_or logs k log
     → log_fronts logs k ≡ Some log.front
 fronts-at logs k log low is = ap (option_map (λ z. z.front)) (slice_get-get_or logs k log low ∙ ap Some (sym is))
 
-front_within : {R : Type 0} (logs : List (Log R)) (j : ℕ) (front : Front) → log_fronts logs j ≡ Some front → j < length logs
+front_within : {M : Type 0} {R : Type 0} (logs : List (Log R M)) (j : ℕ) (front : Front) → log_fronts logs j ≡ Some front → j < length logs
 front_within logs j front e =
     elim (cases_lt j (length logs)) [
       | inl low ↦ low
@@ -100,7 +100,7 @@ front_within logs j front e =
     ]
 
 -- of all logs
-pub best-end : {R : Type 0} (n : ℕ) (logs : List (Log R)) (best : ℕ × Option ℤ) → length logs ≤ n → BestBelow n (log_fronts logs) (Some best)
+pub best-end : {M : Type 0} {R : Type 0} (n : ℕ) (logs : List (Log R M)) (best : ℕ × Option ℤ) → length logs ≤ n → BestBelow n (log_fronts logs) (Some best)
     → IsNext (log_fronts logs) best.0
 best-end n logs best all h = record {
   front = h.front;
@@ -110,5 +110,5 @@ best-end n logs best all h = record {
   first = λ j other low f some. rw h.next (h.first j other low f some);
 }
 
-pub none-end : {R : Type 0} (n : ℕ) (logs : List (Log R)) → length logs ≤ n → BestBelow n (log_fronts logs) None → HaveEnded (log_fronts logs)
+pub none-end : {M : Type 0} {R : Type 0} (n : ℕ) (logs : List (Log R M)) → length logs ≤ n → BestBelow n (log_fronts logs) None → HaveEnded (log_fronts logs)
 none-end n logs all h j other f = let within = front_within logs j other f in h j other (omega (arith, within)) f

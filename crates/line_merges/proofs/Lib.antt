@@ -11,5 +11,6 @@ pub mod ExistLemmas
 pub mod StateLemmas
 pub mod NextLemmas
 pub mod TextLemmas
+pub mod MergeTextLemmas
 pub mod StepLemmas
 pub mod RunLemmas

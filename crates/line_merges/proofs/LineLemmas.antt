@@ -6,10 +6,9 @@ use Rattle.std.proofs.lemmas.Bool.Decides.{nat_tests}
 use Rattle.std.proofs.lemmas.List.{take_all, take-append-le, drop_all}
 use Rattle.line_devices.specs.LineLemmas.{pieces_of-parts, take-line_feed, whole_lines_of-parts}
 use Rattle.line_devices.specs.LineParts.{HasNone, ended_from, rest_from}
-use Rattle.line_devices.specs.StampTallies.{kind_of}
-use Rattle.line_merges.specs.Instants.{LogInstants}
+use Rattle.line_merges.specs.Instants.{LogReading}
 use Rattle.line_merges.specs.LineFronts.{line_in, has_line_feed, behind_line, front_line}
-use Rattle.line_merges.specs.Lines.{Line, line_at, lines_at, lines_from, last_piece, place_after}
+use Rattle.line_merges.specs.Lines.{Line, line_at, lines_at, lines_from, last_piece, place_after, reading_after}
 use Rattle.line_merges.specs.declared.logs.Place.{Place}
 
 -- the first line that a line feed ends
@@ -167,16 +166,9 @@ front_whole bytes end none all =
       feed_is = sym feed;
     }
 
--- the first bytes of a line decide on how it counts
-pub kind_of-by_head : (line : List ℕ) (has_stamp : Bool) → kind_of (take 1027 line) has_stamp ≡ kind_of line has_stamp
-kind_of-by_head [] has_stamp = refl
-kind_of-by_head (byte ∷ []) has_stamp = refl
-kind_of-by_head (byte ∷ next ∷ rest) true = refl
-kind_of-by_head (byte ∷ next ∷ rest) false = refl
-
 -- the bytes that decide on the first line
-pub line_decided : {A : Type 0} (of : List ℕ → A) (bytes future : List ℕ) → ((line : List ℕ) → of (take 1027 line) ≡ of line)
-    → (future ≡ []) ⊎ ((1027 ≤ length bytes) ⊎ (has_line_feed bytes ≡ true)) → of (line_in (bytes ++ future)) ≡ of (line_in bytes)
+pub line_decided : {A : Type 0} (of : List ℕ → A) (bytes future : List ℕ) → ((line : List ℕ) → of (take 65536 line) ≡ of line)
+    → (future ≡ []) ⊎ ((65536 ≤ length bytes) ⊎ (has_line_feed bytes ≡ true)) → of (line_in (bytes ++ future)) ≡ of (line_in bytes)
 line_decided of bytes future by_head (inl none) = rw (none, append-nil bytes) refl
 line_decided of bytes future by_head (inr (inr feed)) = ap of (longer-ended bytes future feed).line
 line_decided of bytes future by_head (inr (inl long)) =
@@ -185,7 +177,7 @@ line_decided of bytes future by_head (inr (inl long)) =
       | inr none ↦
           let longer = (longer-open bytes future none).line in
           let here = (ended-none [] bytes none).line in
-          let front : take 1027 (bytes ++ line_in future) ≡ take 1027 bytes = take-append-le 1027 bytes (line_in future) long in
+          let front : take 65536 (bytes ++ line_in future) ≡ take 65536 bytes = take-append-le 65536 bytes (line_in future) long in
           ap of longer ∙ (sym (by_head (bytes ++ line_in future)) ∙ (ap of front ∙ (by_head bytes ∙ ap of (sym here))))
     ]
 
@@ -205,30 +197,30 @@ last_piece-append [] piece = refl
 last_piece-append (x ∷ []) piece = refl
 last_piece-append (x ∷ y ∷ pieces) piece = last_piece-append (y ∷ pieces) piece
 
-pub lines_from-parts : (instant : LogInstants) (place : Place) (bytes : List ℕ)
+pub lines_from-parts : {M : Type 0} (instant : LogReading M) (place : Place) (bytes : List ℕ)
     → lines_from instant place bytes ≡ lines_at instant place (ended_from [] bytes) (rest_from [] bytes)
 unfolding lines_from
 lines_from-parts instant place bytes =
     rw (whole_lines_of-parts bytes, pieces_of-parts bytes, last_piece-append (ended_from [] bytes) (rest_from [] bytes)) refl
 
 -- no bytes have no line
-pub lines_from-nil : (instant : LogInstants) (place : Place) → lines_from instant place [] ≡ []
+pub lines_from-nil : {M : Type 0} (instant : LogReading M) (place : Place) → lines_from instant place [] ≡ []
 unfolding ended_from rest_from lines_at
 lines_from-nil instant place = lines_from-parts instant place []
 
-lines_at-rest : (instant : LogInstants) (place : Place) (rest : List ℕ) → 0 < length rest
+lines_at-rest : {M : Type 0} (instant : LogReading M) (place : Place) (rest : List ℕ) → 0 < length rest
     → lines_at instant place [] rest ≡ line_at instant place rest false ∷ []
 unfolding lines_at
 lines_at-rest instant place [] some = absurd (omega (arith, some))
 lines_at-rest instant place (byte ∷ rest) some = refl
 
 -- the line of these bytes is the first of them
-abbrev pub first_line : LogInstants → Place → List ℕ → Line
+abbrev pub first_line : {M : Type 0} → LogReading M → Place → List ℕ → Line
 first_line instant place bytes = line_at instant place (line_in bytes) (has_line_feed bytes)
 
-pub lines_from-first : (instant : LogInstants) (place : Place) (bytes : List ℕ) → 0 < length bytes
-    → lines_from instant place bytes ≡ first_line instant place bytes ∷ lines_from instant (place_after place (first_line instant place bytes))
-    (behind_line bytes)
+pub lines_from-first : {M : Type 0} (instant : LogReading M) (place : Place) (bytes : List ℕ) → 0 < length bytes
+    → lines_from instant place bytes ≡ first_line instant place bytes ∷ lines_from (reading_after instant (first_line instant place bytes)) (place_after place
+    (first_line instant place bytes)) (behind_line bytes)
 unfolding lines_at
 lines_from-first instant place bytes some =
     elim (cases_Bool (has_line_feed bytes)) [
@@ -236,13 +228,15 @@ lines_from-first instant place bytes some =
           let first = ended-first [] bytes t in
           let next = place_after place (line_at instant place (line_in bytes) true) in
           lines_from-parts instant place bytes
-          ∙ rw (first.ended, first.rest, t) (ap (λ (z : List Line). line_at instant place (line_in bytes) true ∷ z) (sym (lines_from-parts instant next
-          (behind_line bytes))))
+          ∙ rw (first.ended, first.rest, t) (ap (λ (z : List Line). line_at instant place (line_in bytes) true ∷ z) (sym (lines_from-parts (reading_after
+          instant
+          (line_at instant place (line_in bytes) true)) next (behind_line bytes))))
       | inr t ↦
           let none = ended-none [] bytes t in
           let next = place_after place (line_at instant place bytes false) in
           lines_from-parts instant place bytes
           ∙ rw (none.ended, none.rest, t, none.line, none.behind)
           (lines_at-rest instant place bytes some
-          ∙ ap (λ (z : List Line). line_at instant place bytes false ∷ z) (sym (lines_from-nil instant next)))
+          ∙ ap (λ (z : List Line). line_at instant place bytes false ∷ z) (sym (lines_from-nil (reading_after instant (line_at instant place bytes false))
+          next)))
     ]

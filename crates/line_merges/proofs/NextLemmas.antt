@@ -4,17 +4,17 @@ use Rattle.std.proofs.Common.{subst, ◌∙◌, inl, inr, arith, append-nil, len
 use Rattle.std.proofs.lemmas.Bool.{cases_Bool}
 use Rattle.line_merges.proofs.LineLemmas.{first_line, front_line-behind_line, lines_from-first, lines_from-nil, longer-ended}
 use Rattle.line_merges.specs.Choices.{IsNext}
-use Rattle.line_merges.specs.Instants.{LogInstants}
+use Rattle.line_merges.specs.Instants.{LogReading}
 use Rattle.line_merges.specs.LineFronts.{behind_line, front_line, has_line_feed}
-use Rattle.line_merges.specs.Lines.{Line, lines_from, place_after}
-use Rattle.line_merges.specs.Logs.{IsReady, place_behind}
+use Rattle.line_merges.specs.Lines.{Line, lines_from, place_after, reading_after}
+use Rattle.line_merges.specs.Logs.{IsReady, memory_behind, place_behind}
 use Rattle.line_merges.specs.Merges.{IsFirst}
 use Rattle.line_merges.specs.Steps.{AreKnown, IsLeft, front_lines}
 use Rattle.line_merges.specs.declared.logs.Front.{Front}
 use Rattle.line_merges.specs.declared.logs.Place.{Place}
 
 -- the first line that is left of a log
-record HeadIs (instant : LogInstants) (o : Option Front) (left : List ℕ) (line : Line) : Type 0 where
+record HeadIs {M : Type 0} (instant : LogReading M) (o : Option Front) (left : List ℕ) (line : Line) : Type 0 where
   front : Front
   is : o ≡ Some front
   has_line : front.has_line ≡ true
@@ -30,7 +30,7 @@ same_head a b xs ys e = cc
 no_line : (a : Line) (xs : List Line) → [] ≡ a ∷ xs → ⊥
 no_line a xs e = cc
 
-head-is : (instant : LogInstants) (o : Option Front) (left : List ℕ) (line : Line) (rest : List Line)
+head-is : {M : Type 0} (instant : LogReading M) (o : Option Front) (left : List ℕ) (line : Line) (rest : List Line)
     → ((front : Front) → o ≡ Some front → IsReady instant front) → IsLeft o left → front_lines instant o left ≡ line ∷ rest → HeadIs instant o left line
 head-is instant None left line rest known is e = absurd (no_line line rest e)
 head-is instant (Some front) left line rest known is e =
@@ -56,7 +56,7 @@ head-is instant (Some front) left line rest known is e =
 same_front : (a b : Front) → ◌≡◌ {A = Option Front} (Some a) (Some b) → a ≡ b
 same_front a b e = cc
 
-module _ (instant : ℕ → LogInstants) (is_strict : Bool) (fronts : ℕ → Option Front) (lefts : ℕ → List ℕ) (k : ℕ)
+module _ {M : Type 0} (instant : ℕ → LogReading M) (is_strict : Bool) (fronts : ℕ → Option Front) (lefts : ℕ → List ℕ) (k : ℕ)
     (known : AreKnown instant is_strict fronts) (left : (j : ℕ) → IsLeft (fronts j) (lefts j)) (next : IsNext fronts k) where
   -- the bytes of the log that are left
   here : IsLeft (Some next.front) (lefts k)
@@ -73,7 +73,8 @@ module _ (instant : ℕ → LogInstants) (is_strict : Bool) (fronts : ℕ → Op
 
   -- it is the first of the lines that are left
   pub next_lines : front_lines (instant k) (fronts k) (lefts k) ≡ first_line (instant k) next.front.place (lefts k)
-      ∷ lines_from (instant k) (place_after next.front.place (first_line (instant k) next.front.place (lefts k))) (behind_line (lefts k))
+      ∷ lines_from (reading_after (instant k) (first_line (instant k) next.front.place (lefts k)))
+      (place_after next.front.place (first_line (instant k) next.front.place (lefts k))) (behind_line (lefts k))
   next_lines =
       ap (λ (z : Option Front). front_lines (instant k) z (lefts k)) next.has
       ∙ lines_from-first (instant k) next.front.place (lefts k) next_some
@@ -89,20 +90,24 @@ module _ (instant : ℕ → LogInstants) (is_strict : Bool) (fronts : ℕ → Op
   pub next_place : place_after next.front.place (first_line (instant k) next.front.place (lefts k)) ≡ place_behind next.front
   next_place = rw (next_instant, next_kind) refl
 
+  -- what is known after it
+  pub next_memory : (reading_after (instant k) (first_line (instant k) next.front.place (lefts k))).memory ≡ memory_behind (instant k) next.front
+  next_memory = rw (next_kind, here.1) ((known k next.front next.has).0.after next.line here.0 here.2 _ next.front.kind)
+
   pub next_forward : is_strict ≡ true → (first_line (instant k) next.front.place (lefts k)).is_back ≡ false
   next_forward strict = rw next_instant ((known k next.front next.has).1 strict next.line)
 
 -- bytes after those that were passed: a line feed ends the first line, or they are no more
-pub record IsAfter (bytes later : List ℕ) : Type 0 where
-  pub line : (instant : LogInstants) (place : Place) → first_line instant place (bytes ++ later) ≡ first_line instant place bytes
+pub record IsAfter (M : Type 0) (bytes later : List ℕ) : Type 0 where
+  pub line : (instant : LogReading M) (place : Place) → first_line instant place (bytes ++ later) ≡ first_line instant place bytes
   pub behind : behind_line (bytes ++ later) ≡ behind_line bytes ++ later
 
-pub after_feed : (bytes later : List ℕ) → has_line_feed bytes ≡ true → IsAfter bytes later
+pub after_feed : {M : Type 0} (bytes later : List ℕ) → has_line_feed bytes ≡ true → IsAfter M bytes later
 after_feed bytes later feed =
     let longer = longer-ended bytes later feed in
     record { line = λ instant place. rw (longer.line, longer.feed, feed) refl; behind = longer.behind }
 
-pub after_none : (bytes later : List ℕ) → later ≡ [] → IsAfter bytes later
+pub after_none : {M : Type 0} (bytes later : List ℕ) → later ≡ [] → IsAfter M bytes later
 after_none bytes later none = record {
   line = λ instant place. ap (first_line instant place) (rw none (append-nil bytes));
   behind = rw (none, append-nil bytes, append-nil (behind_line bytes)) refl;

@@ -8,9 +8,9 @@ use Rattle.line_devices.specs.StampTallies.{as_count, one_more_count, tally_afte
 use Rattle.line_devices.specs.StampTallyLemmas.{tally_of_kinds-nil, tally_of_kinds-push}
 use Rattle.line_devices.specs.declared.stamp_tallies.LineKind.{LineKind}
 use Rattle.line_devices.specs.declared.stamp_tallies.StampTally.{StampTally}
-use Rattle.line_merges.specs.Instants.{LogInstants}
+use Rattle.line_merges.specs.Instants.{LogReading}
 use Rattle.line_merges.specs.Lines.{Line, back_of, first_back, first_place, last_piece, line_at, lines_at, lines_from, log_lines}
-use Rattle.line_merges.specs.Lines.{place_after, place_after_lines, stamp_tally}
+use Rattle.line_merges.specs.Lines.{place_after, place_after_lines, reading_after, stamp_tally}
 use Rattle.line_merges.specs.declared.logs.Place.{Place}
 
 or_none : (a : Option ℕ) → option_or a None ≡ a
@@ -44,7 +44,7 @@ known_more place kinds line is h =
     )
 
 -- it has the tally of the lines
-lines-stamps : (instant : LogInstants) (place : Place) (kinds : List LineKind) (lines : List (List ℕ)) (rest : List ℕ) → Knows place kinds
+lines-stamps : {M : Type 0} (instant : LogReading M) (place : Place) (kinds : List LineKind) (lines : List (List ℕ)) (rest : List ℕ) → Knows place kinds
     → (place_after_lines place (lines_at instant place lines rest)).stamps ≡ tally_of_kinds (kinds ++ kinds_of (lines_at instant place lines rest))
 unfolding place_after_lines lines_at
 lines-stamps instant place kinds [] [] h = h.1 ∙ ap tally_of_kinds (sym (append-nil kinds))
@@ -52,10 +52,11 @@ lines-stamps instant place kinds [] (byte ∷ rest) h = (known_more place kinds 
 lines-stamps instant place kinds (bytes ∷ lines) rest h =
     let line = line_at instant place bytes true in
     let after = place_after place line in
-    lines-stamps instant after (kinds ++ line.kind ∷ []) lines rest (known_more place kinds line refl h)
-    ∙ ap tally_of_kinds (append_assoc kinds (line.kind ∷ []) (kinds_of (lines_at instant after lines rest)))
+    lines-stamps (reading_after instant line) after (kinds ++ line.kind ∷ []) lines rest (known_more place kinds line refl h)
+    ∙ ap tally_of_kinds (append_assoc kinds (line.kind ∷ []) (kinds_of (lines_at (reading_after instant line) after lines rest)))
 
-pub log-stamps : (instant : LogInstants) (log : List ℕ) → (place_after_lines first_place (log_lines instant log)).stamps ≡ stamp_tally (log_lines instant log)
+pub log-stamps : {M : Type 0} (instant : LogReading M) (log : List ℕ)
+    → (place_after_lines first_place (log_lines instant log)).stamps ≡ stamp_tally (log_lines instant log)
 unfolding log_lines lines_from stamp_tally
 log-stamps instant log =
     lines-stamps instant first_place [] (whole_lines_of log) (last_piece (pieces_of log)) (refl, sym tally_of_kinds-nil)

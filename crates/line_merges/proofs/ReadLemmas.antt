@@ -12,10 +12,11 @@ use Rattle.line_devices.specs.Writing.{AppendsBeginning, Sends}
 use Rattle.line_devices.specs.WritingLemmas.{Appends-append, Appends-flushed, AppendsBeginning-flushed, Sends-nothing}
 use Rattle.line_devices.specs.LineParts.{HasNone}
 use Rattle.line_devices.specs.StampTallies.{kind_of}
+use Rattle.line_devices.specs.StampTallyLemmas.{kind_of-front}
 use Rattle.line_devices.specs.declared.stamp_tallies.LineKind.{LineKind}
-use Rattle.line_merges.proofs.LineLemmas.{kind_of-by_head, line_decided, line_in-found}
+use Rattle.line_merges.proofs.LineLemmas.{line_decided, line_in-found}
 use Rattle.line_merges.specs.Buffers.{Behind}
-use Rattle.line_merges.specs.Instants.{LogInstants, up_to}
+use Rattle.line_merges.specs.Instants.{LogReading, next_instant, up_to}
 use Rattle.line_merges.specs.LineFronts.{has_line_feed, line_in}
 use Rattle.line_merges.specs.Logs.{AppendsFront, Fails, FindsNext, IsAtEndAfter, IsEnough, IsReady, IsUnfailed, Reads, ReadsOn}
 use Rattle.line_merges.specs.declared.logs.Front.{Front}
@@ -146,24 +147,26 @@ none_more front (inr (inl long)) none feed = absurd (omega (arith, long, none))
 none_more front (inr (inr some)) none feed = absurd (false≢true (sym (feed ∙ no_feed) ∙ some))
 
 future_is : (front : Front) (future : List ℕ) {bytes : List ℕ} → IsEnough front → (front.is_ended ≡ true → future ≡ []) → front.buffer ≡ bytes
-    → (future ≡ []) ⊎ ((1027 ≤ length bytes) ⊎ (has_line_feed bytes ≡ true))
+    → (future ≡ []) ⊎ ((65536 ≤ length bytes) ⊎ (has_line_feed bytes ≡ true))
 future_is front future (inl ended) more same = inl (more ended)
-future_is front future (inr (inl long)) more same = inr (inl (subst (λ (z : List ℕ). 1027 ≤ length z) same long))
+future_is front future (inr (inl long)) more same = inr (inl (subst (λ (z : List ℕ). 65536 ≤ length z) same long))
 future_is front future (inr (inr feed)) more same = inr (inr (sym (ap has_line_feed same) ∙ feed))
 
 -- the next line is known
-pub look_ready : (instant : LogInstants) (old new : Front) (end : ℕ) (bytes : List ℕ) (own : Option ℤ) (is_empty : Bool)
-    → ((last : Option ℤ) (is_first : Bool) (line : List ℕ) → instant last is_first (take 1027 line) ≡ instant last is_first line)
+pub look_ready : {M : Type 0} (instant : LogReading M) (old new : Front) (end : ℕ) (bytes : List ℕ) (own : Option ℤ) (is_empty : Bool)
+    → ((last : Option ℤ) (is_first : Bool) (line : List ℕ) → next_instant instant last is_first (take 65536 line) ≡ next_instant instant last is_first line)
+    → ((number : ℕ) (kind : LineKind) (line : List ℕ)
+    → instant.after instant.memory number kind (take 65536 line) ≡ instant.after instant.memory number kind line)
     → IsEnough old → bytes ≡ old.buffer
     → end ≤ length old.buffer → HasNone 10 old.buffer 0 end → (end < length old.buffer → get_or old.buffer end 0 ≡ 10)
-    → own ≡ instant old.place.last (nat_eq old.place.lines 0) (take end bytes) → is_empty ≡ nat_eq (length bytes) 0 → new.buffer ≡ old.buffer
+    → own ≡ next_instant instant old.place.last (nat_eq old.place.lines 0) (take end bytes) → is_empty ≡ nat_eq (length bytes) 0 → new.buffer ≡ old.buffer
     → new.is_ended ≡ old.is_ended
     → new.place ≡ old.place → new.has_line ≡ not is_empty → new.next ≡ up_to old.place.last own → new.kind ≡ kind_of (take end bytes) (is_some own)
     → IsReady instant new
-look_ready instant old new end bytes own is_empty by_head enough whole high none there is empty buffer ended place has next kind =
+look_ready instant old new end bytes own is_empty by_head head enough whole high none there is empty buffer ended place has next kind =
     let line : take end bytes ≡ line_in bytes = rw whole (line_in-found old.buffer end high none there) in
     let here : new.buffer ≡ bytes = buffer ∙ sym whole in
-    let first = instant old.place.last (nat_eq old.place.lines 0) in
+    let first = next_instant instant old.place.last (nat_eq old.place.lines 0) in
     let first_by_head = by_head old.place.last (nat_eq old.place.lines 0) in
     let kind_in : List ℕ → LineKind = λ z. kind_of z (is_some (first z)) in
     record {
@@ -177,10 +180,13 @@ look_ready instant old new end bytes own is_empty by_head enough whole high none
           let decided = line_decided first bytes future first_by_head (future_is old future enough (λ e. more (ended ∙ e)) (sym whole)) in
           rw (here, place) (ap (up_to old.place.last) (decided ∙ (ap first (sym line) ∙ sym is)) ∙ sym next);
       kind = λ some future more.
-          let by_kind = λ (z : List ℕ). ap (λ (o : Option ℤ). kind_of (take 1027 z) (is_some o)) (first_by_head z)
-          ∙ kind_of-by_head z (is_some (first z)) in
+          let by_kind = λ (z : List ℕ). ap (λ (o : Option ℤ). kind_of (take 65536 z) (is_some o)) (first_by_head z)
+          ∙ kind_of-front z (is_some (first z)) in
           let decided = line_decided kind_in bytes future by_kind (future_is old future enough (λ e. more (ended ∙ e)) (sym whole)) in
           rw (here, place) (decided ∙ (ap kind_in (sym line) ∙ (ap (λ (o : Option ℤ). kind_of (take end bytes) (is_some o)) (sym is) ∙ sym kind)));
+      after = λ some future more number kind.
+          rw here (line_decided (instant.after instant.memory number kind) bytes future (head number kind)
+          (future_is old future enough (λ e. more (ended ∙ e)) (sym whole)));
     }
 
 -- so many reads, with the pending bytes written before each
@@ -230,7 +236,7 @@ fails_later Endless before between after pending text xs ys sent u h = (
   omega (arith, h.2, length-append xs ys),
 )
 
-pub finds_failed : (result : Result Unit LogFault) (fault : LogFault) (instant : LogInstants) (old mid new : Front)
+pub finds_failed : {M : Type 0} (result : Result Unit LogFault) (fault : LogFault) (instant : LogReading M) (old mid new : Front)
     (before between after : Devices) (was_pending pending pending' : List ℕ) → mid.is_ended ≡ false → Finds old mid before between was_pending pending
     → has_line_feed mid.buffer ≡ false → IsErrAnd result (λ by. by ≡ fault)
     → (more : List ℕ) × Reads mid new between after more × ((more ≡ []) × Fails fault between after pending more)

@@ -17,24 +17,25 @@ use Rattle.line_merges.proofs.StateLemmas.{at_each}
 use Rattle.line_merges.proofs.StepLemmas.{buffer_of, still_left, still_read}
 use Rattle.line_merges.proofs.TextLemmas.{merge_text-more}
 use Rattle.line_merges.specs.Choices.{HaveEnded, IsNext}
-use Rattle.line_merges.specs.Instants.{LogInstants, is_before}
-use Rattle.line_merges.specs.Lines.{Line, first_place, lines_from, log_lines, place_after_lines}
+use Rattle.line_merges.specs.Instants.{LogReading, is_before, reading_from}
+use Rattle.line_merges.specs.Lines.{Line, first_place, lines_from, log_lines, place_after_lines, reading_after_lines}
 use Rattle.line_merges.specs.Merges.{IsMerge, merge_text, text_from}
 use Rattle.line_merges.specs.Runs.{AreRead, Ends, IsCut, IsDone, IsMerged, IsNew, IsRead, LogState, Merges, Output}
 use Rattle.line_merges.specs.Steps.{AreKnown, FindsLine, HasPassed, IsKnown, IsLeft, SendsNext, Stands, back_line, front_lines, fronts_of}
+use Rattle.line_merges.specs.Steps.{reading_now, readings_now}
 use Rattle.line_merges.specs.declared.logs.Front.{Front}
 use Rattle.line_merges.specs.declared.logs.Place.{Place}
 use Rattle.line_merges.specs.declared.merges.MergeFault.{MergeFault}
 use Rattle.line_merges.specs.declared.merges.MergeFault.TheVariants.{Write, Endless}
 
-pub sends_cut : (result : Result Bool MergeFault) (instant : ℕ → LogInstants) (is_strict : Bool) (k : ℕ) (first old new : ℕ → Option LogState)
+pub sends_cut : {M : Type 0} (result : Result Bool MergeFault) (instant : ℕ → LogReading M) (is_strict : Bool) (k : ℕ) (first old new : ℕ → Option (LogState M))
     (before between after : Output) (was_pending pending : List ℕ) (is_open : Bool) (Q : MergeFault → Type 0) → IsErrAnd result Q
     → (Stands instant is_strict first old before between was_pending is_open → IsErrAnd result (λ fault. IsCut fault instant is_strict first new before after))
     → SendsNext result instant is_strict k first old new before between after was_pending pending is_open
 sends_cut (Ok done) instant is_strict k first old new before between after was_pending pending is_open Q by h = absurd by
 sends_cut (Err fault) instant is_strict k first old new before between after was_pending pending is_open Q by h = h
 
-pub finds_cut : (result : Result Unit MergeFault) (instant : ℕ → LogInstants) (is_strict : Bool) (k : ℕ) (first old new : ℕ → Option LogState)
+pub finds_cut : {M : Type 0} (result : Result Unit MergeFault) (instant : ℕ → LogReading M) (is_strict : Bool) (k : ℕ) (first old new : ℕ → Option (LogState M))
     (before between after : Output) (was_pending pending : List ℕ) (is_open : Bool) (Q : MergeFault → Type 0) → IsErrAnd result Q
     → (Stands instant is_strict first old before between was_pending is_open → IsErrAnd result (λ fault. IsCut fault instant is_strict first new before after))
     → FindsLine result instant is_strict k first old new before between after was_pending pending is_open
@@ -82,30 +83,34 @@ IsNext-same fronts others k same h = record {
 }
 
 -- before anything is read
-new_lines : (instant : LogInstants) (log : Option LogState) (left : List ℕ) → IsNew log → IsLeft (option_map (λ (s : LogState). s.front) log) left
-    → front_lines instant (option_map (λ (s : LogState). s.front) log) left ≡ log_lines instant left
+new_lines : {M : Type 0} (instant : LogReading M) (log : Option (LogState M)) (left : List ℕ) → IsNew instant.memory log
+    → IsLeft (option_map (λ (s : LogState M). s.front) log) left
+    → front_lines (reading_now instant log) (option_map (λ (s : LogState M). s.front) log) left ≡ log_lines instant left
 unfolding log_lines
 new_lines instant None left new is = sym (ap (lines_from instant first_place) is ∙ lines_from-nil instant first_place)
-new_lines instant (Some log) left new is = ap (λ z. lines_from instant z left) new.3
+new_lines {M} instant (Some log) left new is =
+    ap (λ (z : M). lines_from (reading_from instant z) log.front.place left) new.4 ∙ ap (λ z. lines_from instant z left) new.3
 
-new_passed : (instant : LogInstants) (log : Option LogState) → IsNew log → HasPassed instant log log []
+new_passed : {M : Type 0} (instant : LogReading M) (log : Option (LogState M)) → IsNew instant.memory log → HasPassed instant log log []
 unfolding log_lines
 new_passed instant None new = refl
 new_passed instant (Some log) new = record {
   consumed = rw new.1 (Consumes-nil log.left);
   end = λ e. absurd (false≢true (sym new.2 ∙ e));
   unfailed = new.0;
-  place = λ left is. rw new.3 refl;
+  place = λ left is. rw (new.3, new.4) refl;
+  memory = λ left is. rw (new.3, new.4) refl;
 }
 
-pub stands_first : (instant : ℕ → LogInstants) (is_strict : Bool) (first : ℕ → Option LogState) (before : Output) (pending : List ℕ)
-    → ((k : ℕ) → IsNew (first k)) → before.has_failed ≡ false → pending ≡ [] → Stands instant is_strict first first before before pending false
+pub stands_first : {M : Type 0} (instant : ℕ → LogReading M) (is_strict : Bool) (first : ℕ → Option (LogState M)) (before : Output) (pending : List ℕ)
+    → ((k : ℕ) → IsNew (instant k).memory (first k)) → before.has_failed ≡ false → pending ≡ [] → Stands instant is_strict first first before before pending
+    false
 unfolding text_from
 stands_first instant is_strict first before pending new unmarked none = record {
   passed = λ k. [];
   out = [];
   leads = λ lefts is more merge.
-      IsMerge-same (λ k. front_lines (instant k) (fronts_of first k) (lefts k)) (λ k. log_lines (instant k) (lefts k)) more
+      IsMerge-same (λ k. front_lines (readings_now instant first k) (fronts_of first k) (lefts k)) (λ k. log_lines (instant k) (lefts k)) more
       (λ k. new_lines (instant k) (first k) (lefts k) (new k) (is k)) merge;
   logs = λ k. new_passed (instant k) (first k) (new k);
   sent = rw none (Sends-nothing before.written []);
@@ -118,39 +123,44 @@ stands_first instant is_strict first before pending new unmarked none = record {
 no_front : (front : Front) → ◌≡◌ {A = Option Front} None (Some front) → ⊥
 no_front front e = cc
 
-ended_left : (instant : LogInstants) (log : Option LogState)
-    → ((front : Front) → option_map (λ (s : LogState). s.front) log ≡ Some front → (front.buffer ≡ []) × (front.is_ended ≡ true))
-    → IsLeft (option_map (λ (s : LogState). s.front) log) []
+ended_left : {M : Type 0} (instant : LogReading M) (log : Option (LogState M))
+    → ((front : Front) → option_map (λ (s : LogState M). s.front) log ≡ Some front → (front.buffer ≡ []) × (front.is_ended ≡ true))
+    → IsLeft (option_map (λ (s : LogState M). s.front) log) []
 ended_left instant None is = refl
 ended_left instant (Some log) is = let ended = is log.front refl in ([], rw ended.0 refl, λ _. refl)
 
-ended_read : (instant : LogInstants) (first log : Option LogState) (passed : List ℕ)
-    → ((front : Front) → option_map (λ (s : LogState). s.front) log ≡ Some front → (front.buffer ≡ []) × (front.is_ended ≡ true))
+ended_read : {M : Type 0} (instant : LogReading M) (first log : Option (LogState M)) (passed : List ℕ)
+    → ((front : Front) → option_map (λ (s : LogState M). s.front) log ≡ Some front → (front.buffer ≡ []) × (front.is_ended ≡ true))
     → HasPassed instant first log passed → IsRead first log (passed ++ []) × IsDone instant first log (passed ++ [])
-unfolding place_after_lines
+unfolding place_after_lines reading_after_lines
 ended_read instant None None passed is h = (ap (λ (z : List ℕ). z ++ []) h, tt)
 ended_read instant None (Some log) passed is h = absurd h
 ended_read instant (Some first) None passed is h = absurd h
-ended_read instant (Some first) (Some log) passed is h =
+ended_read {M} instant (Some first) (Some log) passed is h =
     let ended = is log.front refl in
     let left : IsLeft (Some log.front) [] = ([], rw ended.0 refl, λ _. refl) in
-    let place = h.place [] left ∙ ap (place_after_lines log.front.place) (lines_from-nil instant log.front.place) in (
+    let at = reading_from instant log.memory in
+    let none = lines_from-nil at log.front.place in
+    let place = h.place [] left ∙ ap (place_after_lines log.front.place) none in
+    let memory = h.memory [] left ∙ ap (reading_after_lines at) none in (
       rw ended.0 at h.consumed,
       (
         h.end ended.1,
         h.unfailed,
         ap (λ (z : Place). z.back) (sym place) ∙ place-back first_place (log_lines instant (passed ++ [])),
         ap (λ (z : Place). z.stamps) (sym place) ∙ log-stamps instant (passed ++ []),
+        ap (λ (z : LogReading M). z.memory) (sym memory),
       ),
     )
 
-no_lines : (instant : LogInstants) (front : Option Front) → front_lines instant front [] ≡ []
+no_lines : {M : Type 0} (instant : LogReading M) (front : Option Front) → front_lines instant front [] ≡ []
 no_lines instant None = refl
 no_lines instant (Some front) = lines_from-nil instant front.place
 
-module _ (instant : ℕ → LogInstants) (is_strict : Bool) (first now : ℕ → Option LogState) (before at : Output) (pending : List ℕ) (is_open : Bool)
+module _ {M : Type 0} (instant : ℕ → LogReading M) (is_strict : Bool) (first now : ℕ
+    → Option (LogState M)) (before at : Output) (pending : List ℕ) (is_open : Bool)
     (h : Stands instant is_strict first now before at pending is_open) where
-  module _ (known : AreKnown instant is_strict (fronts_of now)) (ended : HaveEnded (fronts_of now)) where
+  module _ (known : AreKnown (readings_now instant now) is_strict (fronts_of now)) (ended : HaveEnded (fronts_of now)) where
     is_ended : (k : ℕ) (front : Front) → fronts_of now k ≡ Some front → (front.buffer ≡ []) × (front.is_ended ≡ true)
     is_ended k front e = (known k front e).0.none (ended k front e)
 
@@ -158,7 +168,7 @@ module _ (instant : ℕ → LogInstants) (is_strict : Bool) (first now : ℕ →
     all_lefts k = ended_left (instant k) (now k) (is_ended k)
 
     all_merge : Merges instant (λ k. h.passed k ++ []) h.out
-    all_merge = rw append-nil at (h.leads (λ k. []) all_lefts [] (λ k. no_lines (instant k) (fronts_of now k)))
+    all_merge = rw append-nil at (h.leads (λ k. []) all_lefts [] (λ k. no_lines (readings_now instant now k) (fronts_of now k)))
 
     pub stands_end : (after : Output) → Appends at.written after.written pending → after.has_failed ≡ at.has_failed
         → IsMerged instant is_strict first now before after
@@ -178,8 +188,8 @@ module _ (instant : ℕ → LogInstants) (is_strict : Bool) (first now : ℕ →
     buffers : ℕ → List ℕ
     buffers j = buffer_of (now j)
 
-    more : (out : List (ℕ × Line)) × IsMerge (λ j. front_lines (instant j) (fronts_of now j) (buffers j)) out
-    more = merge_exists n (λ j. front_lines (instant j) (fronts_of now j) (buffers j)) (λ j high. rw (past j high) refl)
+    more : (out : List (ℕ × Line)) × IsMerge (λ j. front_lines (readings_now instant now j) (fronts_of now j) (buffers j)) out
+    more = merge_exists n (λ j. front_lines (readings_now instant now j) (fronts_of now j) (buffers j)) (λ j high. rw (past j high) refl)
 
     more_merge : Merges instant (λ j. h.passed j ++ buffers j) (h.out ++ more.0)
     unfolding buffers
@@ -221,41 +231,52 @@ module _ (instant : ℕ → LogInstants) (is_strict : Bool) (first now : ℕ →
       long = inr (omega (arith, long, length-append h.out more.0));
     }
 
-pub ends_cut : (result : Result Unit MergeFault) (fault : MergeFault) (instant : ℕ → LogInstants) (is_strict : Bool) (first now : ℕ → Option LogState)
+pub ends_cut : {M : Type 0} (result : Result Unit MergeFault) (fault : MergeFault) (instant : ℕ → LogReading M) (is_strict : Bool) (first now : ℕ
+    → Option (LogState M))
     (before after : Output) → IsErrAnd result (λ by. by ≡ fault) → IsCut fault instant is_strict first now before after
     → Ends result instant is_strict first now before after
 ends_cut (Ok done) fault instant is_strict first now before after by h = absurd by
 ends_cut (Err e) fault instant is_strict first now before after by h = rw by h
 
 -- the lines that are known
-known_is : (instant : LogInstants) (is_strict : Bool) (o : Option Front) (front : Front) → IsKnown instant is_strict o → o ≡ Some front
+known_is : {M : Type 0} (instant : LogReading M) (is_strict : Bool) (o : Option Front) (front : Front) → IsKnown instant is_strict o → o ≡ Some front
     → IsKnown instant is_strict (Some front)
 known_is instant is_strict o front h e = subst (IsKnown instant is_strict) e h
 
-same_front : (was now : Option LogState) (front : Front) → now ≡ was → option_map (λ (s : LogState). s.front) now ≡ Some front
-    → option_map (λ (s : LogState). s.front) was ≡ Some front
-same_front was now front same e = ap (option_map (λ (s : LogState). s.front)) (sym same) ∙ e
+same_front : {M : Type 0} (was now : Option (LogState M)) (front : Front) → now ≡ was → option_map (λ (s : LogState M). s.front) now ≡ Some front
+    → option_map (λ (s : LogState M). s.front) was ≡ Some front
+same_front {M} was now front same e = ap (option_map (λ (s : LogState M). s.front)) (sym same) ∙ e
 
-pub known_more : (instant : ℕ → LogInstants) (is_strict : Bool) (was now : ℕ → Option LogState) (k : ℕ) → ((j : ℕ) → j ≢ k → now j ≡ was j)
-    → IsKnown (instant k) is_strict (fronts_of now k)
-    → ((j : ℕ) (front : Front) → j < k → fronts_of was j ≡ Some front → IsKnown (instant j) is_strict (Some front))
-    → (j : ℕ) (front : Front) → j < k + 1 → fronts_of now j ≡ Some front → IsKnown (instant j) is_strict (Some front)
+same_known : {M : Type 0} (instant : LogReading M) (is_strict : Bool) (was now : Option (LogState M)) (front : Front) → now ≡ was
+    → IsKnown (reading_now instant was) is_strict (Some front) → IsKnown (reading_now instant now) is_strict (Some front)
+same_known {M} instant is_strict was now front same h =
+    subst (λ (z : Option (LogState M)). IsKnown (reading_now instant z) is_strict (Some front)) (sym same) h
+
+pub known_more : {M : Type 0} (instant : ℕ → LogReading M) (is_strict : Bool) (was now : ℕ → Option (LogState M)) (k : ℕ)
+    → ((j : ℕ) → j ≢ k → now j ≡ was j) → IsKnown (readings_now instant now k) is_strict (fronts_of now k)
+    → ((j : ℕ) (front : Front) → j < k → fronts_of was j ≡ Some front → IsKnown (readings_now instant was j) is_strict (Some front))
+    → (j : ℕ) (front : Front) → j < k + 1 → fronts_of now j ≡ Some front → IsKnown (readings_now instant now j) is_strict (Some front)
 known_more instant is_strict was now k others here known =
-    at_each (λ j. (front : Front) → j < k + 1 → fronts_of now j ≡ Some front → IsKnown (instant j) is_strict (Some front)) k
-    (λ front low e. known_is (instant k) is_strict (fronts_of now k) front here e)
-    (λ j other front low e. known j front (omega (arith, other, low)) (same_front (was j) (now j) front (others j other) e))
+    at_each (λ j. (front : Front) → j < k + 1 → fronts_of now j ≡ Some front → IsKnown (readings_now instant now j) is_strict (Some front)) k
+    (λ front low e. known_is (readings_now instant now k) is_strict (fronts_of now k) front here e)
+    (λ j other front low e. same_known (instant j) is_strict (was j) (now j) front (others j other)
+    (known j front (omega (arith, other, low)) (same_front (was j) (now j) front (others j other) e)))
 
-pub known_all : (instant : ℕ → LogInstants) (is_strict : Bool) (was now : ℕ → Option LogState) (k : ℕ) → ((j : ℕ) → j ≢ k → now j ≡ was j)
-    → IsKnown (instant k) is_strict (fronts_of now k) → AreKnown instant is_strict (fronts_of was) → AreKnown instant is_strict (fronts_of now)
+pub known_all : {M : Type 0} (instant : ℕ → LogReading M) (is_strict : Bool) (was now : ℕ → Option (LogState M)) (k : ℕ)
+    → ((j : ℕ) → j ≢ k → now j ≡ was j) → IsKnown (readings_now instant now k) is_strict (fronts_of now k)
+    → AreKnown (readings_now instant was) is_strict (fronts_of was) → AreKnown (readings_now instant now) is_strict (fronts_of now)
 known_all instant is_strict was now k others here known =
-    at_each (λ j. (front : Front) → fronts_of now j ≡ Some front → IsKnown (instant j) is_strict (Some front)) k
-    (λ front e. known_is (instant k) is_strict (fronts_of now k) front here e)
-    (λ j other front e. known j front (same_front (was j) (now j) front (others j other) e))
+    at_each (λ j. (front : Front) → fronts_of now j ≡ Some front → IsKnown (readings_now instant now j) is_strict (Some front)) k
+    (λ front e. known_is (readings_now instant now k) is_strict (fronts_of now k) front here e)
+    (λ j other front e. same_known (instant j) is_strict (was j) (now j) front (others j other)
+    (known j front (same_front (was j) (now j) front (others j other) e)))
 
-pub known_start : (instant : ℕ → LogInstants) (is_strict : Bool) (now : ℕ → Option LogState) (n k : ℕ) → ((j : ℕ) → n ≤ j → now j ≡ None) → n ≤ k
-    → ((j : ℕ) (front : Front) → j < k → fronts_of now j ≡ Some front → IsKnown (instant j) is_strict (Some front)) → AreKnown instant is_strict (fronts_of now)
-known_start instant is_strict now n k past high known j front e =
+pub known_start : {M : Type 0} (instant : ℕ → LogReading M) (is_strict : Bool) (now : ℕ → Option (LogState M)) (n k : ℕ)
+    → ((j : ℕ) → n ≤ j → now j ≡ None) → n ≤ k
+    → ((j : ℕ) (front : Front) → j < k → fronts_of now j ≡ Some front → IsKnown (readings_now instant now j) is_strict (Some front))
+    → AreKnown (readings_now instant now) is_strict (fronts_of now)
+known_start {M} instant is_strict now n k past high known j front e =
     elim (cases_lt j n) [
       | inl low ↦ known j front (omega (arith, low, high)) e
-      | inr far ↦ absurd (no_front front (ap (option_map (λ (s : LogState). s.front)) (sym (past j far)) ∙ e))
+      | inr far ↦ absurd (no_front front (ap (option_map (λ (s : LogState M). s.front)) (sym (past j far)) ∙ e))
     ]

@@ -32,42 +32,46 @@ slice_some (x ∷ xs) zero low = (x, refl)
 slice_some (x ∷ xs) (suc k) low = slice_some xs k (omega (arith, low))
 
 -- the state of a log
-abbrev pub state_of : {R : Type 0} → (R → Option (List ℕ)) → (R → Bool) → R → Front → LogState
-state_of left is_marked reader front = record { left = left reader; has_failed = is_marked reader; front = front }
+abbrev pub state_of : {M : Type 0} {R : Type 0} → (R → Option (List ℕ)) → (R → Bool) → R → Front → M → LogState M
+state_of left is_marked reader front memory = record { left = left reader; has_failed = is_marked reader; front = front; memory = memory }
 
-module _ {R : Type 0} (left : R → Option (List ℕ)) (is_marked : R → Bool) (logs : List (Log R)) where
-  pub states-set : (k : ℕ) (log : Log R) → k < length logs → log_states left is_marked (set logs k log) k ≡ Some (state_of left is_marked log.reader log.front)
-  states-set k log low = ap (option_map (λ z. state_of left is_marked z.reader z.front)) (slice_get-set logs k log low)
+module _ {M : Type 0} {R : Type 0} (left : R → Option (List ℕ)) (is_marked : R → Bool) (logs : List (Log R M)) where
+  pub states-set : (k : ℕ) (log : Log R M) → k < length logs → log_states left is_marked (set logs k log) k ≡ Some (state_of left is_marked log.reader
+      log.front log.memory)
+  states-set k log low = ap (option_map (λ z. state_of left is_marked z.reader z.front z.memory)) (slice_get-set logs k log low)
 
-  pub states-set_other : (k : ℕ) (log : Log R) (j : ℕ) → j ≢ k → log_states left is_marked (set logs k log) j ≡ log_states left is_marked logs j
-  states-set_other k log j other = ap (option_map (λ z. state_of left is_marked z.reader z.front)) (slice_get-set_other logs k j log other)
+  pub states-set_other : (k : ℕ) (log : Log R M) (j : ℕ) → j ≢ k → log_states left is_marked (set logs k log) j ≡ log_states left is_marked logs j
+  states-set_other k log j other = ap (option_map (λ z. state_of left is_marked z.reader z.front z.memory)) (slice_get-set_other logs k j log other)
 
-  pub states-at : (k : ℕ) (log : Log R) → k < length logs
-      → log_states left is_marked logs k ≡ Some (state_of left is_marked (get_or logs k log).reader (get_or logs k log).front)
-  states-at k log low = ap (option_map (λ z. state_of left is_marked z.reader z.front)) (slice_get-get_or logs k log low)
+  pub states-at : (k : ℕ) (log : Log R M) → k < length logs
+      → log_states left is_marked logs k ≡ Some (state_of left is_marked (get_or logs k log).reader (get_or logs k log).front (get_or logs k log).memory)
+  states-at k log low = ap (option_map (λ z. state_of left is_marked z.reader z.front z.memory)) (slice_get-get_or logs k log low)
 
-  pub states-some : (k : ℕ) → k < length logs → (state : LogState) × (log_states left is_marked logs k ≡ Some state)
+  pub states-some : (k : ℕ) → k < length logs → (state : LogState M) × (log_states left is_marked logs k ≡ Some state)
   states-some k low =
       let log = slice_some logs k low in
-      (state_of left is_marked log.0.reader log.0.front, ap (option_map (λ z. state_of left is_marked z.reader z.front)) log.1)
+      (state_of left is_marked log.0.reader log.0.front log.0.memory, ap (option_map (λ z. state_of left is_marked z.reader z.front z.memory)) log.1)
 
   pub states-past : (k : ℕ) → length logs ≤ k → log_states left is_marked logs k ≡ None
-  states-past k past = ap (option_map (λ z. state_of left is_marked z.reader z.front)) (slice_get_past logs k past)
+  states-past k past = ap (option_map (λ z. state_of left is_marked z.reader z.front z.memory)) (slice_get_past logs k past)
 
   pub fronts-states : (k : ℕ) → fronts_of (log_states left is_marked logs) k ≡ log_fronts logs k
   fronts-states k = of (slice_get logs k) where
-    of : (log : Option (Log R)) → option_map (λ (s : LogState). s.front) (option_map (λ (z : Log R). state_of left is_marked z.reader z.front) log)
-        ≡ option_map (λ (z : Log R). z.front) log
+    of : (log : Option (Log R M)) → option_map (λ (s : LogState M). s.front) (option_map (λ (z : Log R M). state_of left is_marked z.reader z.front
+        z.memory) log)
+        ≡ option_map (λ (z : Log R M). z.front) log
     of None = refl
     of (Some log) = refl
 
 -- one more log
-pub new-append : {R : Type 0} (left : R → Option (List ℕ)) (is_marked : R → Bool) (logs : List (Log R)) (log : Log R) → AreNew left is_marked logs
-    → IsNew (Some (state_of left is_marked log.reader log.front)) → AreNew left is_marked (logs ++ log ∷ [])
-new-append left is_marked [] log h new zero = new
-new-append left is_marked [] log h new (suc k) = tt
-new-append left is_marked (x ∷ logs) log h new zero = h zero
-new-append left is_marked (x ∷ logs) log h new (suc k) = new-append left is_marked logs log (λ j. h (suc j)) new k
+pub new-append : {M : Type 0} {R : Type 0} (memories : ℕ → M) (left : R → Option (List ℕ)) (is_marked : R → Bool) (logs : List (Log R M)) (log : Log R M)
+    → AreNew memories left is_marked logs → IsNew (memories (length logs)) (Some (state_of left is_marked log.reader log.front log.memory))
+    → AreNew memories left is_marked (logs ++ log ∷ [])
+new-append memories left is_marked [] log h new zero = new
+new-append memories left is_marked [] log h new (suc k) = tt
+new-append memories left is_marked (x ∷ logs) log h new zero = h zero
+new-append memories left is_marked (x ∷ logs) log h new (suc k) =
+    new-append (λ j. memories (suc j)) left is_marked logs log (λ j. h (suc j)) new k
 
 -- a fact of one number, and of all others
 pub at_each : (P : ℕ → Type 0) (k : ℕ) → P k → ((j : ℕ) → j ≢ k → P j) → (j : ℕ) → P j

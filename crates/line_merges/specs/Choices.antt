@@ -6,7 +6,7 @@ use Rattle.line_merges.specs.declared.logs.Front.{Front}
 use Rattle.line_merges.specs.declared.logs.Log.{Log}
 
 -- the front of each log, by its number
-abbrev pub log_fronts : {R : Type 0} → List (Log R) → ℕ → Option Front
+abbrev pub log_fronts : {M : Type 0} {R : Type 0} → List (Log R M) → ℕ → Option Front
 log_fronts logs k = option_map (λ log. log.front) (slice_get logs k)
 
 -- a log has the next line: no other log has an earlier one, and no log before it one of the same instant

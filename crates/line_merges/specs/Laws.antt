@@ -1,7 +1,7 @@
 -- Laws of merges. A function of `src/laws.rt` proves each of them.
 use Rattle.std.specs.Prelude.{◌≡◌, ℕ, ◌<◌, ◌==◌, true, false, ⊤, List, [], ◌∷◌, map, if◌then◌else◌}
 use Rattle.std.specs.List.{concat}
-use Rattle.line_merges.specs.Instants.{LogInstants, is_before}
+use Rattle.line_merges.specs.Instants.{LogReading, is_before}
 use Rattle.line_merges.specs.Lines.{Line, line_text, log_lines}
 use Rattle.line_merges.specs.Merges.{IsMerge}
 
@@ -51,6 +51,6 @@ MergesKeepTogether =
     (logs : ℕ → List Line) (k : ℕ) (line next : Line) (rest : List Line) (more : List (ℕ × Line)) → IsMerge logs ((k, line) ∷ more)
     → logs k ≡ line ∷ next ∷ rest → next.instant ≡ line.instant → (after : List (ℕ × Line)) × (more ≡ (k, next) ∷ after)
 
--- the lines of a log have all its bytes
-abbrev pub LinesKeepBytes : Type 0
-LinesKeepBytes = (instant : LogInstants) (log : List ℕ) → concat (map line_text (log_lines instant log)) ≡ log
+-- the lines of a log have all its bytes, whatever is known of the lines before
+abbrev pub LinesKeepBytes : Type 0 → Type 0
+LinesKeepBytes M = (reading : LogReading M) (log : List ℕ) → concat (map line_text (log_lines reading log)) ≡ log

@@ -8,3 +8,4 @@ pub mod Logs
 pub mod Merges
 pub mod Runs
 pub mod Steps
+pub mod TextLaws

@@ -5,7 +5,7 @@ use Rattle.line_devices.specs.Lines.{pieces_of, whole_lines_of}
 use Rattle.line_devices.specs.StampTallies.{first_tally, kind_of, tally_after, tally_of_kinds}
 use Rattle.line_devices.specs.declared.stamp_tallies.LineKind.{LineKind}
 use Rattle.line_devices.specs.declared.stamp_tallies.StampTally.{StampTally}
-use Rattle.line_merges.specs.Instants.{LogInstants, is_before, up_to}
+use Rattle.line_merges.specs.Instants.{LogReading, is_before, next_instant, reading_from, up_to}
 use Rattle.line_merges.specs.LineFronts.{feed_if}
 use Rattle.line_merges.specs.declared.logs.Place.{Place}
 
@@ -28,20 +28,20 @@ abbrev pub first_place : Place
 first_place = record { lines = 0; last = None; back = None; stamps = first_tally }
 
 -- the instant up to a line at a place
-abbrev pub instant_at : LogInstants → Place → List ℕ → Option ℤ
-instant_at instant place bytes = up_to place.last (instant place.last (place.lines == 0) bytes)
+abbrev pub instant_at : {M : Type 0} → LogReading M → Place → List ℕ → Option ℤ
+instant_at reading place bytes = up_to place.last (next_instant reading place.last (place.lines == 0) bytes)
 
 -- the kind of a line at a place: by its bytes, and by whether it has an instant of its own
-abbrev pub kind_at : LogInstants → Place → List ℕ → LineKind
-kind_at instant place bytes = kind_of bytes (is_some (instant place.last (place.lines == 0) bytes))
+abbrev pub kind_at : {M : Type 0} → LogReading M → Place → List ℕ → LineKind
+kind_at reading place bytes = kind_of bytes (is_some (next_instant reading place.last (place.lines == 0) bytes))
 
 -- the line of these bytes at a place
-abbrev pub line_at : LogInstants → Place → List ℕ → Bool → Line
-line_at instant place bytes is_ended = record {
+abbrev pub line_at : {M : Type 0} → LogReading M → Place → List ℕ → Bool → Line
+line_at reading place bytes is_ended = record {
   number = min (place.lines + 1) (2 ^ 64 - 1);
-  instant = instant_at instant place bytes;
-  kind = kind_at instant place bytes;
-  is_back = is_before (instant_at instant place bytes) place.last;
+  instant = instant_at reading place bytes;
+  kind = kind_at reading place bytes;
+  is_back = is_before (instant_at reading place bytes) place.last;
   bytes = bytes;
   is_ended = is_ended;
 }
@@ -73,12 +73,21 @@ unfoldable pub place_after_lines : Place → List Line → Place
 place_after_lines place [] = place
 place_after_lines place (line ∷ lines) = place_after_lines (place_after place line) lines
 
+-- how the lines after a line are read
+abbrev pub reading_after : {M : Type 0} → LogReading M → Line → LogReading M
+reading_after reading line = reading_from reading (reading.after reading.memory line.number line.kind line.bytes)
+
+-- how those after several lines are read
+unfoldable pub reading_after_lines : {M : Type 0} → LogReading M → List Line → LogReading M
+reading_after_lines reading [] = reading
+reading_after_lines reading (line ∷ lines) = reading_after_lines (reading_after reading line) lines
+
 -- lines from a place on, that a line feed ends, and the bytes after the last line feed
-unfoldable pub lines_at : LogInstants → Place → List (List ℕ) → List ℕ → List Line
-lines_at instant place [] [] = []
-lines_at instant place [] (byte ∷ rest) = line_at instant place (byte ∷ rest) false ∷ []
-lines_at instant place (bytes ∷ lines) rest =
-    line_at instant place bytes true ∷ lines_at instant (place_after place (line_at instant place bytes true)) lines rest
+unfoldable pub lines_at : {M : Type 0} → LogReading M → Place → List (List ℕ) → List ℕ → List Line
+lines_at reading place [] [] = []
+lines_at reading place [] (byte ∷ rest) = line_at reading place (byte ∷ rest) false ∷ []
+lines_at reading place (bytes ∷ lines) rest =
+    let line = line_at reading place bytes true in line ∷ lines_at (reading_after reading line) (place_after place line) lines rest
 
 -- the last piece
 abbrev pub last_piece : List (List ℕ) → List ℕ
@@ -87,9 +96,9 @@ last_piece (piece ∷ []) = piece
 last_piece (piece ∷ next ∷ pieces) = last_piece (next ∷ pieces)
 
 -- the lines of bytes from a place on
-unfoldable pub lines_from : LogInstants → Place → List ℕ → List Line
-lines_from instant place bytes = lines_at instant place (whole_lines_of bytes) (last_piece (pieces_of bytes))
+unfoldable pub lines_from : {M : Type 0} → LogReading M → Place → List ℕ → List Line
+lines_from reading place bytes = lines_at reading place (whole_lines_of bytes) (last_piece (pieces_of bytes))
 
 -- the lines of a log
-unfoldable pub log_lines : LogInstants → List ℕ → List Line
-log_lines instant log = lines_from instant first_place log
+unfoldable pub log_lines : {M : Type 0} → LogReading M → List ℕ → List Line
+log_lines reading log = lines_from reading first_place log

@@ -6,8 +6,9 @@ use Rattle.std.specs.Io.KnownBytes.{Appends, Consumes}
 use Rattle.line_devices.specs.Device.{Devices}
 use Rattle.line_devices.specs.StampTallies.{tally_after}
 use Rattle.line_devices.specs.Writing.{AppendsBeginning, Sends}
+use Rattle.line_devices.specs.declared.stamp_tallies.LineKind.{LineKind}
 use Rattle.line_devices.specs.declared.stamp_tallies.LineKind.TheVariants.{Empty}
-use Rattle.line_merges.specs.Instants.{LogInstants, is_before}
+use Rattle.line_merges.specs.Instants.{LogReading, is_before}
 use Rattle.line_merges.specs.LineFronts.{front_line, has_line_feed, line_in}
 use Rattle.line_merges.specs.Lines.{first_place, instant_at, kind_at}
 use Rattle.line_merges.specs.declared.logs.Front.{Front}
@@ -16,25 +17,29 @@ use Rattle.line_merges.specs.declared.logs.LogFault.{LogFault}
 use Rattle.line_merges.specs.declared.logs.LogFault.TheVariants.{Read, Write, Endless}
 use Rattle.line_merges.specs.declared.logs.Place.{Place}
 
--- the log of a reader, of which nothing was read
-abbrev pub new_log : {R : Type 0} → R → Log R
-new_log reader = record {
+-- the log of a reader, of which nothing was read, and of whose lines this is known
+abbrev pub new_log : {M : Type 0} {R : Type 0} → R → M → Log R M
+new_log reader memory = record {
   reader = reader;
+  memory = memory;
   front = record { buffer = []; is_ended = false; place = first_place; has_line = false; next = None; kind = Empty };
 }
 
 -- the bytes decide on the instant of the next line: a line feed ends it, or the log is at its end, or it is long
 abbrev pub IsEnough : Front → Type 0
-IsEnough front = (front.is_ended ≡ true) ⊎ ((1027 ≤ length front.buffer) ⊎ (has_line_feed front.buffer ≡ true))
+IsEnough front = (front.is_ended ≡ true) ⊎ ((65536 ≤ length front.buffer) ⊎ (has_line_feed front.buffer ≡ true))
 
 -- the next line is known, whatever bytes follow: none follow if the log is at its end
-pub record IsReady (instant : LogInstants) (front : Front) : Type 0 where
+pub record IsReady {M : Type 0} (reading : LogReading M) (front : Front) : Type 0 where
   pub line : front.has_line ≡ true → 0 < length front.buffer
   pub none : front.has_line ≡ false → (front.buffer ≡ []) × (front.is_ended ≡ true)
   pub next : front.has_line ≡ true → (future : List ℕ) → (front.is_ended ≡ true → future ≡ [])
-      → instant_at instant front.place (line_in (front.buffer ++ future)) ≡ front.next
+      → instant_at reading front.place (line_in (front.buffer ++ future)) ≡ front.next
   pub kind : front.has_line ≡ true → (future : List ℕ) → (front.is_ended ≡ true → future ≡ [])
-      → kind_at instant front.place (line_in (front.buffer ++ future)) ≡ front.kind
+      → kind_at reading front.place (line_in (front.buffer ++ future)) ≡ front.kind
+  pub after : front.has_line ≡ true → (future : List ℕ) → (front.is_ended ≡ true → future ≡ []) → (number : ℕ) (kind : LineKind)
+      → reading.after reading.memory number kind (line_in (front.buffer ++ future))
+      ≡ reading.after reading.memory number kind (line_in front.buffer)
 
 -- nothing is left to read, if it was known before
 abbrev pub IsAtEndAfter : Option (List ℕ) → Option (List ℕ) → Type 0
@@ -77,12 +82,17 @@ ReadsOn result old new before after was_pending pending =
     (λ fault. (more ≡ []) × Fails fault before after was_pending more)
 
 -- as many reads as the next line needs
-abbrev pub FindsNext : Result Unit LogFault → LogInstants → Front → Front → Devices → Devices → List ℕ → List ℕ → Type 0
-FindsNext result instant old new before after was_pending pending =
+abbrev pub FindsNext : {M : Type 0} → Result Unit LogFault → LogReading M → Front → Front → Devices → Devices → List ℕ → List ℕ → Type 0
+FindsNext result reading old new before after was_pending pending =
     (more : List ℕ) × Reads old new before after more
     × MatchResult result
-    (λ _. Sends before.written after.written pending was_pending × IsUnfailed before after × IsReady instant new)
+    (λ _. Sends before.written after.written pending was_pending × IsUnfailed before after × IsReady reading new)
     (λ fault. Fails fault before after was_pending more × (has_line_feed new.buffer ≡ false))
+
+-- what is known of a log after its next line
+abbrev pub memory_behind : {M : Type 0} → LogReading M → Front → M
+memory_behind reading front =
+    reading.after reading.memory (min (front.place.lines + 1) (2 ^ 64 - 1)) front.kind (line_in front.buffer)
 
 -- the place after the next line
 abbrev pub place_behind : Front → Place

@@ -6,7 +6,7 @@ use crate::instants::is_before;
 use crate::logs::Log;
 
 /// Returns the number of the log that has the next line: the first of those with the least instant.
-pub(crate) fn next_log<R>(logs: &[Log<R>]) -> Option<usize>
+pub(crate) fn next_log<R, M>(logs: &[Log<R, M>]) -> Option<usize>
     ensures next { IfSome result (λ k. IsNext (log_fronts logs.now) k) }
     ensures within { IfSome result (λ k. k < length logs.now) }
     ensures ended { IfNone result (HaveEnded (log_fronts logs.now)) }

@@ -1,5 +1,6 @@
 //! Laws of merges: each function here proves one, and does nothing when it is called.
 ghost use Rattle.line_merges.specs.Laws.{LinesKeepBytes, MergesAreInOrder, MergesAreOne, MergesKeepLogs, MergesKeepTogether};
+ghost use Rattle.line_merges.specs.TextLaws.{TextsAreMerged};
 
 /// A merge has the lines of each log, in their order, and no others.
 pub fn merges_keep_logs()
@@ -23,6 +24,13 @@ pub fn merges_keep_together()
 {}
 
 /// The lines of a log have all its bytes.
-pub fn lines_keep_bytes()
-    ensures { LinesKeepBytes }
+pub fn lines_keep_bytes<M>()
+    ensures { LinesKeepBytes M }
+{}
+
+/// The text of a merge has the lines of the merge, each once and no others. The lines of a log
+/// have all bytes of the log. If no line of a log is earlier than the line before it, no line of
+/// the merge is.
+pub fn texts_are_merged<M>()
+    ensures { TextsAreMerged M }
 {}

@@ -2,15 +2,14 @@
 ghost use Rattle.std.specs.Prelude.{◌≡◌, ◌<◌, ◌≤◌, ◌++◌, true, false, drop, length, take, Some, None, IfOk, OnOk, if◌then◌else◌};
 ghost use Rattle.line_devices.specs.Device.{devices};
 ghost use Rattle.line_devices.specs.Writing.{MarksFailure, SendsAll};
-ghost use Rattle.line_merges.specs.Instants.{is_before};
+ghost use Rattle.line_merges.specs.Instants.{is_before, reading_from};
 ghost use Rattle.line_merges.specs.LineFronts.{behind_line, front_line, has_line_feed};
 ghost use Rattle.line_merges.specs.Lines.{first_place};
-ghost use Rattle.line_merges.specs.Logs.{FindsNext, IsEnough, IsReady, PassesLine, ReadsOn, new_log, place_behind};
+ghost use Rattle.line_merges.specs.Logs.{FindsNext, IsEnough, IsReady, PassesLine, ReadsOn, memory_behind, new_log, place_behind};
 
 use crate::buffers::Buffer;
 use crate::instants::{Instants, LONGEST_HEAD, is_before, up_to};
 use line_devices::devices::{DeviceFault, Sink, Source};
-use line_devices::places::place_of;
 use line_devices::sending::{Pending, flush, send};
 use line_devices::stamp_tallies::{LineKind, StampTally, kind_of};
 
@@ -65,13 +64,15 @@ pub struct Front {
     pub kind: LineKind,
 }
 
-/// A log: its reader, and its front.
+/// A log: its reader, its front, and the memory of the lines before the next one.
 #[derive(Drop)]
-pub struct Log<R> {
+pub struct Log<R, M> {
     /// The reader.
     pub reader: R,
     /// The front.
     pub front: Front,
+    /// The memory of the lines before the next one.
+    pub memory: M,
 }
 
 impl Place {
@@ -88,10 +89,10 @@ impl Place {
     }
 }
 
-impl<R: Source> Log<R> {
-    /// Returns the log of a reader, before its first line.
-    pub(crate) fn new(reader: R) -> Log<R>
-        ensures { result ≡ new_log reader }
+impl<R: Source, M> Log<R, M> {
+    /// Returns the log of a reader with its first memory, before its first line.
+    pub(crate) fn new(reader: R, memory: M) -> Log<R, M>
+        ensures { result ≡ new_log reader memory }
     {
         Log {
             reader,
@@ -103,6 +104,7 @@ impl<R: Source> Log<R> {
                 next: None,
                 kind: LineKind::Empty,
             },
+            memory,
         }
     }
 }
@@ -175,12 +177,14 @@ fn front_of(buffer: &mut Buffer) -> (usize, bool)
 pub(crate) fn find_next<I: Instants, R: Source, W: Sink>(
     instants: &I,
     log: usize,
+    memory: &I::Memory,
     reader: &mut R,
     front: &mut Front,
     writer: &mut W,
     pending: &mut Pending,
 ) -> Result<(), LogFault>
-    ensures { FindsNext result (I.instant instants.now log) front.old front.new
+    ensures { FindsNext result (reading_from (I.reading instants.now log) memory.now)
+        front.old front.new
         (devices (R.left reader.old) (W.written writer.old)
         (R.is_marked reader.old) (W.is_marked writer.old))
         (devices (R.left reader.new) (W.written writer.new)
@@ -189,45 +193,66 @@ pub(crate) fn find_next<I: Instants, R: Source, W: Sink>(
     'reads: while needs_more(front) {
         read_on(reader, front, writer, pending)?;
     }
-    look(instants, log, front);
+    look(instants, log, memory, front);
     Ok(())
 }
 
 // Whether the next line of a log needs more bytes to be known.
-fn needs_more(front: &Front) -> bool
-    ensures more { result ≡ true → (front.now.is_ended ≡ false)
-        × (length front.now.buffer < 1027) × (has_line_feed front.now.buffer ≡ false) }
-    ensures enough { result ≡ false → IsEnough front.now }
+#[inline(always)]
+fn needs_more(front: &mut Front) -> bool
+    ensures same { front.new ≡ front.old }
+    ensures more { result ≡ true → (front.old.is_ended ≡ false)
+        × (length front.old.buffer < 65536) × (has_line_feed front.old.buffer ≡ false) }
+    ensures enough { result ≡ false → IsEnough front.old }
 {
-    if front.is_ended || front.buffer.len() >= LONGEST_HEAD {
+    if front.is_ended {
         return false;
     }
-    !has_line_feed(front.buffer.bytes())
-}
-
-// Whether some bytes have a line feed.
-fn has_line_feed(bytes: &[u8]) -> bool
-    ensures { result ≡ has_line_feed bytes.now }
-{
-    place_of(b'\n', bytes, 0) < bytes.len()
+    let end = front.buffer.line_end();
+    if end < front.buffer.len() {
+        return false;
+    }
+    end < LONGEST_HEAD
 }
 
 // Finds the next line in the bytes that were read, its instant, and how it counts.
-fn look<I: Instants>(instants: &I, log: usize, front: &mut Front)
+fn look<I: Instants>(instants: &I, log: usize, memory: &I::Memory, front: &mut Front)
     requires { IsEnough front.old }
-    ensures ready { IsReady (I.instant instants.now log) front.new }
+    ensures ready { IsReady (reading_from (I.reading instants.now log) memory.now) front.new }
     ensures buffer { front.new.buffer ≡ front.old.buffer }
     ensures ended { front.new.is_ended ≡ front.old.is_ended }
     ensures place { front.new.place ≡ front.old.place }
 {
     let end = front.buffer.line_end();
     let bytes = front.buffer.bytes();
-    let own = instants.instant_of(log, front.place.last, front.place.lines == 0, &bytes[..end]);
+    let own = instants.instant_of(
+        log,
+        memory,
+        front.place.last,
+        front.place.lines == 0,
+        &bytes[..end],
+    );
     let kind = kind_of(&bytes[..end], own.is_some());
     let is_empty = bytes.is_empty();
     front.kind = kind;
     front.has_line = !is_empty;
     front.next = up_to(front.place.last, own);
+}
+
+/// Brings the memory of a log up to its next line.
+pub(crate) fn remember<I: Instants>(
+    instants: &I,
+    log: usize,
+    memory: &mut I::Memory,
+    front: &mut Front,
+)
+    ensures same { front.new ≡ front.old }
+    ensures memory { memory.new
+        ≡ memory_behind (reading_from (I.reading instants.now log) memory.old) front.old }
+{
+    let end = front.buffer.line_end();
+    let (number, kind) = (front.place.lines.saturating_add(1), front.kind);
+    instants.remember(log, memory, number, kind, &front.buffer.bytes()[..end]);
 }
 
 /// Sends the next line of a log, with its line feed if it has one, and returns whether it has. A

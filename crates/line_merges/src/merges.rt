@@ -2,15 +2,14 @@
 ghost use Rattle.std.specs.Prelude.{◌≡◌, ◌≢◌, ◌<◌, ◌≤◌, [], ◌∷◌, ◌++◌, ℕ, Bool, false, length, vec_capacity, vec_len, OnErr, OnOk, Option};
 ghost use Rattle.line_devices.specs.Writing.{MarksFailure, SendsAll};
 ghost use Rattle.line_merges.specs.Choices.{IsNext};
-ghost use Rattle.line_merges.specs.Instants.{LogInstants};
 ghost use Rattle.line_merges.specs.LineFronts.{feed_if};
 ghost use Rattle.line_merges.specs.Logs.{new_log};
-ghost use Rattle.line_merges.specs.Runs.{AreNew, Ends, LogState, Output, log_states, output};
-ghost use Rattle.line_merges.specs.Steps.{AreKnown, FindsLine, SendsNext, back_line, fault_at, fronts_of};
+ghost use Rattle.line_merges.specs.Runs.{AreNew, Ends, LogState, Output, first_memories, log_states, output};
+ghost use Rattle.line_merges.specs.Steps.{AreKnown, FindsLine, SendsNext, back_line, fault_at, fronts_of, readings_now};
 
 use crate::choice::next_log;
 use crate::instants::{Instants, is_before};
-use crate::logs::{Front, Log, LogFault, find_next, pass_line};
+use crate::logs::{Front, Log, LogFault, find_next, pass_line, remember};
 use line_devices::devices::{DeviceFault, Sink, Source};
 use line_devices::sending::{Pending, flush, send};
 use std::alloc::AllocError;
@@ -47,16 +46,16 @@ impl From<DeviceFault> for MergeFault {
 ///
 /// If the merge is strict, it ends before the first line that is earlier than the one before it in
 /// its log. Otherwise each log has the number of that line in its place. At the end each log has
-/// there how many of its lines have no stamp.
+/// there how many of its lines have no stamp, and it has the memory of its lines.
 pub fn merge<I: Instants, R: Source, W: Sink>(
     instants: &I,
     is_strict: bool,
-    logs: &mut [Log<R>],
+    logs: &mut [Log<R, I::Memory>],
     writer: &mut W,
 ) -> Result<(), MergeFault>
-    requires logs { AreNew R.left R.is_marked logs.old }
+    requires logs { AreNew (first_memories (I.reading instants.now)) R.left R.is_marked logs.old }
     requires writer { W.is_marked writer.old ≡ false }
-    ensures { Ends result (I.instant instants.now) is_strict
+    ensures { Ends result (I.reading instants.now) is_strict
         (log_states R.left R.is_marked logs.old) (log_states R.left R.is_marked logs.new)
         (output (W.written writer.old) (W.is_marked writer.old))
         (output (W.written writer.new) (W.is_marked writer.new)) }
@@ -71,7 +70,7 @@ pub fn merge<I: Instants, R: Source, W: Sink>(
             flush(writer, &mut pending)?;
             return Ok(());
         };
-        let is_ended = pass(logs, next, is_open, writer, &mut pending)?;
+        let is_ended = pass(instants, logs, next, is_open, writer, &mut pending)?;
         is_open = !is_ended;
         find(instants, is_strict, logs, next, writer, &mut pending)?;
     }
@@ -81,19 +80,20 @@ pub fn merge<I: Instants, R: Source, W: Sink>(
 
 // Sends the next line of a log, after a line feed if the line before has none. Returns whether a
 // line feed ends it.
-fn pass<R: Source, W: Sink>(
-    logs: &mut [Log<R>],
+fn pass<I: Instants, R: Source, W: Sink>(
+    instants: &I,
+    logs: &mut [Log<R, I::Memory>],
     k: usize,
     is_open: bool,
     writer: &mut W,
     pending: &mut Pending,
 ) -> Result<bool, MergeFault>
     requires { k < length logs.old }
-    ensures sends { (instants : ℕ → LogInstants) (is_strict : Bool)
-        (first : ℕ → Option LogState) (before : Output)
-        → AreKnown instants is_strict (fronts_of (log_states R.left R.is_marked logs.old))
+    ensures sends { (is_strict : Bool) (first : ℕ → Option (LogState I.Memory)) (before : Output)
+        → AreKnown (readings_now (I.reading instants.now) (log_states R.left R.is_marked logs.old))
+        is_strict (fronts_of (log_states R.left R.is_marked logs.old))
         → IsNext (fronts_of (log_states R.left R.is_marked logs.old)) k
-        → SendsNext result instants is_strict k first
+        → SendsNext result (I.reading instants.now) is_strict k first
         (log_states R.left R.is_marked logs.old) (log_states R.left R.is_marked logs.new)
         before (output (W.written writer.old) (W.is_marked writer.old))
         (output (W.written writer.new) (W.is_marked writer.new))
@@ -103,6 +103,7 @@ fn pass<R: Source, W: Sink>(
 {
     send_feed(is_open, writer, pending)?;
     let log = &mut logs[k];
+    remember(instants, k, &mut log.memory, &mut log.front);
     match pass_line(&mut log.reader, &mut log.front, writer, pending) {
         Ok(is_ended) => Ok(is_ended),
         Err(fault) => Err(fault_at(k, fault)),
@@ -130,14 +131,14 @@ fn send_feed<W: Sink>(
 fn find<I: Instants, R: Source, W: Sink>(
     instants: &I,
     is_strict: bool,
-    logs: &mut [Log<R>],
+    logs: &mut [Log<R, I::Memory>],
     k: usize,
     writer: &mut W,
     pending: &mut Pending,
 ) -> Result<(), MergeFault>
     requires { k < length logs.old }
-    ensures finds { (first : ℕ → Option LogState) (before : Output) (is_open : Bool)
-        → FindsLine result (I.instant instants.now) is_strict k first
+    ensures finds { (first : ℕ → Option (LogState I.Memory)) (before : Output) (is_open : Bool)
+        → FindsLine result (I.reading instants.now) is_strict k first
         (log_states R.left R.is_marked logs.old) (log_states R.left R.is_marked logs.new)
         before (output (W.written writer.old) (W.is_marked writer.old))
         (output (W.written writer.new) (W.is_marked writer.new))
@@ -149,6 +150,7 @@ fn find<I: Instants, R: Source, W: Sink>(
     match find_next(
         instants,
         k,
+        &log.memory,
         &mut log.reader,
         &mut log.front,
         writer,
@@ -189,16 +191,21 @@ fn fault_at(k: usize, fault: LogFault) -> MergeFault
     }
 }
 
-/// Adds the log of a reader after the logs, and gives it their number. Nothing was read of any.
-/// Fails only if no memory is left, and then the logs stay the same.
-pub fn add<R: Source + Drop>(logs: &mut Vec<Log<R>>, reader: R) -> Result<(), AllocError>
+/// Adds the log of a reader, with its first memory, after the logs, and gives it their number.
+/// Fails only if the heap is full, and then the logs stay the same.
+pub fn add<R: Source + Drop, M: Drop>(
+    logs: &mut Vec<Log<R, M>>,
+    reader: R,
+    memory: M,
+) -> Result<(), AllocError>
     requires reader { R.is_marked reader ≡ false }
-    requires logs { AreNew R.left R.is_marked logs.old.items }
-    ensures ok { OnOk result (logs.new.items ≡ logs.old.items ++ new_log reader ∷ []) }
+    ensures ok { OnOk result (logs.new.items ≡ logs.old.items ++ new_log reader memory ∷ []) }
     ensures err { OnErr result (logs.new.items ≡ logs.old.items) }
     ensures full { OnErr result (vec_capacity logs.old ≤ vec_len logs.old) }
-    ensures new { AreNew R.left R.is_marked logs.new.items }
+    ensures new { (memories : ℕ → M) → memory ≡ memories (length logs.old.items)
+        → AreNew memories R.left R.is_marked logs.old.items
+        → AreNew memories R.left R.is_marked logs.new.items }
 {
-    logs.push(Log::new(reader))?;
+    logs.push(Log::new(reader, memory))?;
     Ok(())
 }

@@ -1,11 +1,18 @@
 -- The best of the first readers, by the one before the last.
 use Rattle.std.proofs.Common.{◌≡◌, ◌≢◌, ◌≤◌, ◌<◌, ℕ, zero, suc, ◌+◌, ◌*◌, ◌-◌, Bool, true, false, List, Option, Some, None, refl, sym, ap, ◌∙◌, arith, take}
-use Rattle.std.specs.Prelude.{◌||◌, ◌/◌, is_some}
+use Rattle.std.specs.Prelude.{◌||◌, ◌/◌, if◌then◌else◌, drop, length, Result, Ok, Err}
+use Rattle.std.specs.Result.{is_ok}
 use Rattle.std.proofs.lemmas.Nat.{div-mul-add}
 use Rattle.log_forms.specs.Choices.{any_reads, best_of, better_of, count_in, count_read, found_by, key_numbered, place_numbered}
 use Rattle.log_forms.specs.Choices.{reader_key, reader_place, reads}
 use Rattle.log_forms.specs.Places.{text_at}
-use Rattle.log_forms.specs.Stamps.{stamp_at}
+use Rattle.format_descriptions.specs.declared.parts.Parts.{Parts}
+use Rattle.log_forms.specs.Choices.{reader_form, some_year}
+use Rattle.log_forms.specs.Forms.{form_named, items_of, lead_of}
+use Rattle.log_forms.specs.Stamps.{fits, fits_after, front_reading, has_digits, read_stamp, stamp_after, stamp_at, stamp_at_text}
+use Rattle.log_forms.specs.declared.form.Form.{Form}
+use Rattle.log_forms.specs.declared.instants.Assumed.{Assumed}
+use Rattle.log_forms.specs.declared.stamps.StampRefusal.TheVariants.{Absent}
 use Rattle.std.proofs.Math.Bool.{or-false, or_assoc}
 
 -- the same, by a number that is one less
@@ -56,33 +63,64 @@ read_here place forms line before some h e = one_more place forms line before so
 
 -- ---- no form reads a line that lacks its place
 
-none_counted : (reader : ℕ) (line : List ℕ) → text_at (reader_place reader) (reader_key reader) (take 1024 line) ≡ None → reads reader line ≡ false
+none_counted : (reader : ℕ) (line : List ℕ) → text_at (reader_place reader) (reader_key reader) (take 65533 line) ≡ None → reads reader line ≡ false
 unfolding found_by count_in stamp_at
 none_counted reader line none = rw none refl
 
 -- the forms of a place have one place
-no_text : (place form : ℕ) (line : List ℕ) → form < 42 → text_at (reader_place (place * 42)) (reader_key (place * 42)) (take 1024 line) ≡ None
-    → text_at (reader_place (place * 42 + form)) (reader_key (place * 42 + form)) (take 1024 line) ≡ None
-no_text place form line low none =
+same_text : (place form : ℕ) (line : List ℕ) → form < 42
+    → text_at (reader_place (place * 42 + form)) (reader_key (place * 42 + form)) (take 65533 line)
+    ≡ text_at (reader_place (place * 42)) (reader_key (place * 42)) (take 65533 line)
+same_text place form line low =
     let first : (place * 42) / 42 ≡ place = ap (λ (z : ℕ). z / 42) (omega arith) ∙ div-mul-add place 42 0 (omega arith) in
     let same : (place * 42 + form) / 42 ≡ (place * 42) / 42 = div-mul-add place 42 form low ∙ sym first in
-    ap (λ (z : ℕ). text_at (place_numbered z) (key_numbered z) (take 1024 line)) same ∙ none
+    ap (λ (z : ℕ). text_at (place_numbered z) (key_numbered z) (take 65533 line)) same
 
-none_at : (place forms : ℕ) (line : List ℕ) → forms ≤ 42 → text_at (reader_place (place * 42)) (reader_key (place * 42)) (take 1024 line) ≡ None
+none_at : (place forms : ℕ) (line : List ℕ) → forms ≤ 42 → text_at (reader_place (place * 42)) (reader_key (place * 42)) (take 65533 line) ≡ None
     → any_reads (place * 42 + forms) line ≡ any_reads (place * 42) line
 none_at place zero line low none = ap (λ (z : ℕ). any_reads z line) (omega arith)
 none_at place (suc forms) line low none =
     any_behind (place * 42 + suc forms) (place * 42 + forms) line (omega arith)
     ∙ ap (λ (z : Bool). any_reads (place * 42 + forms) line || z)
-    (none_counted (place * 42 + forms) line (no_text place forms line (omega (arith, low)) none))
+    (none_counted (place * 42 + forms) line (same_text place forms line (omega (arith, low)) ∙ none))
     ∙ or-false (any_reads (place * 42 + forms) line)
     ∙ none_at place forms line (omega (arith, low)) none
 
--- ---- one place after another
+-- ---- no form reads a line that its items do not fit
 
-not_some : (o : Option (List ℕ)) → is_some o ≡ false → o ≡ None
-not_some None e = refl
-not_some (Some text) e = absurd cc
+unfit_in : (form : Form) (assumed : Assumed) (front text : List ℕ) (d : Bool) (read : Result (Parts × ℕ) ℕ) → is_ok read ≡ false
+    → (if d then read_stamp assumed front (length front - length text) text read else Err Absent) ≡ Err Absent
+unfit_in form assumed front text true (Ok read) e = absurd cc
+unfit_in form assumed front text true (Err place) e = refl
+unfit_in form assumed front text false read e = refl
+
+unfit_after : (form : Form) (assumed : Assumed) (front text : List ℕ) (lead : Result (Parts × ℕ) ℕ) → fits_after form.items text lead ≡ false
+    → stamp_after form assumed front text lead ≡ Err Absent
+unfit_after form assumed front text (Ok lead) e =
+    let rest = drop lead.1 text in unfit_in form assumed front rest (has_digits form rest) (front_reading form.items rest) e
+unfit_after form assumed front text (Err place) e = refl
+
+-- no count without a stamp
+unread : (reader : ℕ) (line : List ℕ)
+    → stamp_at (form_named (reader_form reader)) (reader_place reader) (reader_key reader) some_year line ≡ Err Absent → reads reader line ≡ false
+unfolding found_by count_in
+unread reader line e = rw e refl
+
+pub unfit : (place form : ℕ) (line rest : List ℕ) → form < 42
+    → text_at (reader_place (place * 42)) (reader_key (place * 42)) (take 65533 line) ≡ Some rest
+    → fits (lead_of (reader_form (place * 42 + form))) (items_of (reader_form (place * 42 + form))) rest ≡ false
+    → reads (place * 42 + form) line ≡ false
+unfolding stamp_at
+unfit place form line rest low there e =
+    let reader = place * 42 + form in
+    let named = form_named (reader_form reader) in
+    let front = take 65533 line in
+    unread reader line (
+    ap (stamp_at_text named some_year front) (same_text place form line low ∙ there)
+    ∙ unfit_after named some_year front rest (front_reading (lead_of (reader_form reader)) rest) e
+    )
+
+-- ---- one place after another
 
 still_read : (readers more : ℕ) (line : List ℕ) → any_reads readers line ≡ true → any_reads (readers + more) line ≡ true
 still_read readers zero line e = ap (λ (z : ℕ). any_reads z line) (omega arith) ∙ e
@@ -101,9 +139,11 @@ pub place_before : (places : ℕ) (line : List ℕ) → 1 ≤ places → any_rea
 place_before places line some e =
     ap (λ (z : ℕ). any_reads z line) (one_place places some) ∙ still_read ((places - 1) * 42) 42 line e
 
-pub place_lacks : (places : ℕ) (line : List ℕ) → 1 ≤ places → any_reads ((places - 1) * 42) line ≡ false
-    → is_some (text_at (reader_place ((places - 1) * 42)) (reader_key ((places - 1) * 42)) (take 1024 line)) ≡ false
-    → any_reads (places * 42) line ≡ false
-place_lacks places line some e none =
-    ap (λ (z : ℕ). any_reads z line) (one_place places some)
-    ∙ none_at (places - 1) 42 line (omega arith) (not_some _ none) ∙ e
+pub place_lacks : (place : ℕ) (line : List ℕ) → text_at (reader_place (place * 42)) (reader_key (place * 42)) (take 65533 line) ≡ None
+    → any_reads (place * 42 + 42) line ≡ (any_reads (place * 42) line || false)
+place_lacks place line none = none_at place 42 line (omega arith) none ∙ sym (or-false (any_reads (place * 42) line))
+
+pub place_more : (places : ℕ) (line : List ℕ) (here : Bool) → 1 ≤ places → any_reads ((places - 1) * 42) line ≡ false
+    → any_reads ((places - 1) * 42 + 42) line ≡ (any_reads ((places - 1) * 42) line || here) → any_reads (places * 42) line ≡ here
+place_more places line here some none more =
+    ap (λ (z : ℕ). any_reads z line) (one_place places some) ∙ more ∙ ap (λ (z : Bool). z || here) none

@@ -8,14 +8,14 @@ use Rattle.log_forms.specs.Stamps.{front_reading, has_digits, has_digits_behind,
 use Rattle.log_forms.specs.declared.form.Form.{Form}
 use Rattle.log_forms.specs.declared.instants.Assumed.{Assumed}
 
-pub front_whole : (line : List ℕ) → length line ≤ 1024 → line ≡ take 1024 line
-front_whole line short = sym (take_all 1024 line short)
+pub front_whole : (line : List ℕ) → length line ≤ 65533 → line ≡ take 65533 line
+front_whole line short = sym (take_all 65533 line short)
 
-pub front_short : (line : List ℕ) → length (take 1024 line) ≤ 1024
-front_short line = omega (arith, length-take 1024 line)
+pub front_short : (line : List ℕ) → length (take 65533 line) ≤ 65533
+front_short line = omega (arith, length-take 65533 line)
 
-pub front_shorter : (line : List ℕ) → length (take 1024 line) ≤ length line
-front_shorter line = omega (arith, length-take 1024 line)
+pub front_shorter : (line : List ℕ) → length (take 65533 line) ≤ length line
+front_shorter line = omega (arith, length-take 65533 line)
 
 pub ruleset fronts = (front_whole, front_short, front_shorter)
 
@@ -25,11 +25,11 @@ unfolding read_from
 no_items_read text = let none : length text - length text ≡ 0 = omega arith in rw none refl
 
 -- with nothing before a stamp, it is at the front
-pub behind_nothing : (form : Form) (assumed : Assumed) (count : ℕ) (text : List ℕ) → form.lead ≡ []
-    → stamp_in form assumed count text ≡ stamp_behind form assumed count text
-behind_nothing form assumed count text none =
-    sym (ap (λ items. stamp_after form assumed count text (front_reading items text)) none ∙
-    ap (λ read. stamp_after form assumed count text read) (no_items_read text))
+pub behind_nothing : (form : Form) (assumed : Assumed) (front text : List ℕ) → form.lead ≡ []
+    → stamp_in form assumed front text ≡ stamp_behind form assumed front text
+behind_nothing form assumed front text none =
+    sym (ap (λ items. stamp_after form assumed front text (front_reading items text)) none ∙
+    ap (λ read. stamp_after form assumed front text read) (no_items_read text))
 
 -- digits that are counted at the front
 pub counted_in_front : (form : Form) (text : List ℕ) (digits : ℕ) → Some digits ≡ form.digits → form.ahead ≡ 0

@@ -5,7 +5,9 @@ use Rattle.std.specs.Prelude.{◌&&◌, ◌||◌, Option, Some, None, Result, Ok
 use Rattle.std.specs.Char.{is_ascii_alphanumeric}
 use Rattle.format_descriptions.specs.declared.parts.Parts.{Parts}
 use Rattle.log_forms.proofs.ZoneWordLemmas.{no_zone}
-use Rattle.log_forms.specs.Ends.{begins_alphanumeric, begins_year, begins_zone, is_apart, leaves_fraction, leaves_year, runs_on, spells}
+use Rattle.log_forms.specs.Ends.{begins_alphanumeric, begins_year, begins_zone, begins_zone_column, is_apart, leaves_fraction, leaves_year, past_separators}
+use Rattle.log_forms.specs.Ends.{runs_on, spells}
+use Rattle.log_forms.specs.Fronts.{ends_with_zone, follows_no_zone}
 use Rattle.log_forms.specs.Instants.{has_count, instant_of_parts, is_whole, lacks_year, offset_by, with_year}
 use Rattle.log_forms.specs.Marks.{past_blanks}
 use Rattle.log_forms.specs.Laws.{LeavesNoZone, without_offset, without_year}
@@ -25,8 +27,8 @@ both_false false false e = record { on = refl; out = refl }
 
 -- the word of a stamp does not continue in the rest, and nothing is left out
 pub apart-tests : (p : Parts) (stamp : List ℕ) (first : ℕ) (more : List ℕ) → is_apart p stamp (first ∷ more) ≡ true
-    → Tests (runs_on (has_count p) (first ∷ more)) ((not (is_whole p) && (leaves_fraction p stamp (first ∷ more) || begins_zone (first ∷ more)))
-    || leaves_year p (first ∷ more))
+    → Tests (runs_on (has_count p) (first ∷ more)) ((not (is_whole p) && (leaves_fraction p stamp (first ∷ more)
+    || (begins_zone (first ∷ more) || begins_zone_column (first ∷ more)))) || leaves_year p (first ∷ more))
 unfolding is_apart
 apart-tests p stamp first more e = both_false _ _ e
 
@@ -45,7 +47,8 @@ runs_on-count : (is_count : Bool) (rest : List ℕ) → runs_on is_count rest �
 runs_on-count true rest e = e
 runs_on-count false [] e = refl
 runs_on-count false (first ∷ more) e =
-    weaker (is_ascii_alphanumeric first || (first == 43) || (first == 45)) (first == 46) (first == 58) (begins_alphanumeric more) e
+    weaker (is_ascii_alphanumeric first || (first == 95) || (first == 43) || (first == 45)) (first == 46) (first == 58)
+    (begins_alphanumeric more) e
 
 pub apart-word : (p : Parts) (stamp rest : List ℕ) → is_apart p stamp rest ≡ true → runs_on true rest ≡ false
 apart-word p stamp [] e = refl
@@ -68,11 +71,18 @@ first_false false b e none = refl
 first_false true true e none = absurd cc
 first_false true false e none = absurd cc
 
-zone_false : (whole fraction zone year : Bool) → ((not whole && (fraction || zone)) || year) ≡ false → whole ≡ false → zone ≡ false
-zone_false true fraction zone year e lacks = absurd cc
-zone_false false true zone year e lacks = absurd cc
-zone_false false false true year e lacks = absurd cc
-zone_false false false false year e lacks = refl
+-- whether a time zone follows, and a column of one
+record NoneLeft (is_zone is_column : Bool) : Type 0 where
+  zone : is_zone ≡ false
+  column : is_column ≡ false
+
+zone_false : (whole fraction zone column year : Bool) → ((not whole && (fraction || (zone || column))) || year) ≡ false → whole ≡ false
+    → NoneLeft zone column
+zone_false true fraction zone column year e lacks = absurd cc
+zone_false false true zone column year e lacks = absurd cc
+zone_false false false true column year e lacks = absurd cc
+zone_false false false false true year e lacks = absurd cc
+zone_false false false false false year e lacks = record { zone = refl; column = refl }
 
 -- with an offset or a count, the assumed offset does not matter
 offset_same : (assumed : Assumed) (p : Parts) (hour : Option ℕ) → is_some hour ≡ true
@@ -108,16 +118,27 @@ pub not_ok : (r : Result Stamp StampRefusal) (stamp : Stamp) → r ≡ Ok stamp 
 not_ok (Ok found) stamp e fails = absurd cc
 not_ok (Err refusal) stamp e fails = absurd cc
 
-pub no_zone_left : (p : Parts) (stamp rest : List ℕ) → is_whole p ≡ false → is_apart p stamp rest ≡ true → LeavesNoZone rest
-unfolding past_blanks
-no_zone_left p stamp [] lacks e = record { word = refl; zone = no_zone [] refl }
-no_zone_left p stamp (first ∷ more) lacks e =
+-- no time zone is before a stamp without an offset
+front_false : (whole zone : Bool) → (whole || not zone) ≡ true → whole ≡ false → zone ≡ false
+front_false true zone e lacks = absurd cc
+front_false false true e lacks = absurd cc
+front_false false false e lacks = refl
+
+pub no_zone_left : (p : Parts) (stamp before rest : List ℕ) → is_whole p ≡ false → is_apart p stamp rest ≡ true
+    → follows_no_zone p before ≡ true → LeavesNoZone before rest
+unfolding past_blanks past_separators
+no_zone_left p stamp before [] lacks e alone =
+    record { word = refl; zone = no_zone [] refl; column = refl; front = front_false (is_whole p) (ends_with_zone before) alone lacks }
+no_zone_left p stamp before (first ∷ more) lacks e alone =
     let rest = first ∷ more in
     let tests = apart-tests p stamp first more e in
     let no_count = right_false (is_some p.offset_hour) (has_count p) lacks in
+    let none = zone_false (is_whole p) (leaves_fraction p stamp rest) (begins_zone rest) (begins_zone_column rest) (leaves_year p rest) tests.out lacks in
     record {
       word = subst (λ (is_count : Bool). runs_on is_count rest ≡ false) no_count tests.on;
-      zone = zone_false (is_whole p) (leaves_fraction p stamp rest) (begins_zone rest) (leaves_year p rest) tests.out lacks;
+      zone = none.zone;
+      column = none.column;
+      front = front_false (is_whole p) (ends_with_zone before) alone lacks;
     }
 
 pub no_year_left : (p : Parts) (stamp rest : List ℕ) → (lacks_year p && not (has_count p)) ≡ true → is_apart p stamp rest ≡ true
@@ -127,5 +148,5 @@ no_year_left p stamp [] lacks e = refl
 no_year_left p stamp (first ∷ more) lacks e =
     let rest = first ∷ more in
     let tests = apart-tests p stamp first more e in
-    let left = not (is_whole p) && (leaves_fraction p stamp rest || begins_zone rest) in
+    let left = not (is_whole p) && (leaves_fraction p stamp rest || (begins_zone rest || begins_zone_column rest)) in
     other_false (lacks_year p && not (has_count p)) (begins_year rest) (right_false left (leaves_year p rest) tests.out) lacks

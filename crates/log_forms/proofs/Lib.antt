@@ -2,10 +2,14 @@ mod ApartLemmas
 mod ChoiceLawLemmas
 mod ChoiceLemmas
 mod FrontLemmas
+mod GrowthLemmas
+mod JsonLemmas
+mod JsonPathLemmas
 mod LeftOutLemmas
 mod PathLemmas
 mod RangeLemmas
 mod ReadBackLemmas
+mod ReadLineLemmas
 mod SplitLemmas
 mod YearLemmas
 mod ZoneWordLemmas

@@ -181,32 +181,32 @@ counted_in_two form text digits counted split within =
 
 -- the stamp of a text that was read, and of one that was not
 
-stamp_when : (assumed : Assumed) (start : ℕ) (text rest : List ℕ) (p : Parts) (has : Bool) (front : Front)
+stamp_when : (assumed : Assumed) (line : List ℕ) (start : ℕ) (text rest : List ℕ) (p : Parts) (has : Bool) (front : Front)
     → Some (p, rest) ≡ (if has then if_read front else None)
-    → ended_stamp assumed p start (length text - length rest) text
-    ≡ (if has then read_stamp assumed start text (placed text front) else Err Absent)
-stamp_when assumed start text rest p true (Ok (q, more)) is =
+    → ended_stamp assumed p line start (length text - length rest) text
+    ≡ (if has then read_stamp assumed line start text (placed text front) else Err Absent)
+stamp_when assumed line start text rest p true (Ok (q, more)) is =
     let same : Some (p, rest) ≡ Some (q, more) = is in
     let pair : (p, rest) ≡ (q, more) = cc same in
     let parts : p ≡ q = ap (λ (r : Parts × List ℕ). r.0) pair in
     let behind : rest ≡ more = ap (λ (r : Parts × List ℕ). r.1) pair in
     rw (parts, behind) refl
-stamp_when assumed start text rest p true (Err left) is = absurd cc
-stamp_when assumed start text rest p false front is = absurd cc
+stamp_when assumed line start text rest p true (Err left) is = absurd cc
+stamp_when assumed line start text rest p false front is = absurd cc
 
-no_stamp_when : (assumed : Assumed) (start : ℕ) (text : List ℕ) (has : Bool) (front : Front)
+no_stamp_when : (assumed : Assumed) (line : List ℕ) (start : ℕ) (text : List ℕ) (has : Bool) (front : Front)
     → None ≡ (if has then if_read front else None)
-    → Err Absent ≡ (if has then read_stamp assumed start text (placed text front) else Err Absent)
-no_stamp_when assumed start text true (Ok (q, more)) is = absurd cc
-no_stamp_when assumed start text true (Err left) is = refl
-no_stamp_when assumed start text false front is = refl
+    → Err Absent ≡ (if has then read_stamp assumed line start text (placed text front) else Err Absent)
+no_stamp_when assumed line start text true (Ok (q, more)) is = absurd cc
+no_stamp_when assumed line start text true (Err left) is = refl
+no_stamp_when assumed line start text false front is = refl
 
-pub counted_stamp : (form : Form) (assumed : Assumed) (count : ℕ) (text rest : List ℕ) (p : Parts) → Some (p, rest) ≡ counted_reading form text
-    → ended_stamp assumed p (count - length text) (length text - length rest) text ≡ stamp_in form assumed count text
-counted_stamp form assumed count text rest p is =
-    stamp_when assumed (count - length text) text rest p (has_digits form text) (front_of form.items text no_parts) is
+pub counted_stamp : (form : Form) (assumed : Assumed) (front text rest : List ℕ) (p : Parts) → Some (p, rest) ≡ counted_reading form text
+    → ended_stamp assumed p front (length front - length text) (length text - length rest) text ≡ stamp_in form assumed front text
+counted_stamp form assumed front text rest p is =
+    stamp_when assumed front (length front - length text) text rest p (has_digits form text) (front_of form.items text no_parts) is
 
-pub no_counted_stamp : (form : Form) (assumed : Assumed) (count : ℕ) (text : List ℕ) → None ≡ counted_reading form text
-    → Err Absent ≡ stamp_in form assumed count text
-no_counted_stamp form assumed count text is =
-    no_stamp_when assumed (count - length text) text (has_digits form text) (front_of form.items text no_parts) is
+pub no_counted_stamp : (form : Form) (assumed : Assumed) (front text : List ℕ) → None ≡ counted_reading form text
+    → Err Absent ≡ stamp_in form assumed front text
+no_counted_stamp form assumed front text is =
+    no_stamp_when assumed front (length front - length text) text (has_digits form text) (front_of form.items text no_parts) is

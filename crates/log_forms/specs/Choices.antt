@@ -68,7 +68,15 @@ key_numbered number =
     else (if number == 32 then codes ","
     else (if number == 33 then codes "\""
     else (if number == 34 then codes "#"
-    else (if number == 35 then codes ": " else [])))))))))))))))))))))))))))))
+    else (if number == 35 then codes ": "
+    else (if number == 36 then codes "ime\":\""
+    else (if number == 37 then codes "ime\": \""
+    else (if number == 38 then codes "tamp\":\""
+    else (if number == 39 then codes "tamp\": \""
+    else (if number == 40 then codes "='"
+    else (if number == 41 then codes ">"
+    else (if number == 42 then codes ",\""
+    else (if number == 43 then codes "=" else [])))))))))))))))))))))))))))))))))))))
 
 abbrev pub reader_key : ℕ → List ℕ
 reader_key reader = key_numbered (reader / CHOSEN)

@@ -4,9 +4,9 @@ use Rattle.std.specs.Prelude.{◌&&◌, ◌||◌, Option, Some, None, if◌then�
 use Rattle.std.specs.Char.{is_ascii_digit}
 use Rattle.std.proofs.lemmas.List.{drop-drop}
 use Rattle.rfc3339.specs.Reading.{◌>>=◌, mark_at}
-use Rattle.log_forms.specs.Json.{before_point, depth_after, has_ended, member_at, named_value, path_of, state_inside, value_of, value_text}
-use Rattle.log_forms.specs.Json.{without_quote}
-use Rattle.log_forms.specs.Marks.{bytes_at, first_of, is_blank, past_blanks}
+use Rattle.log_forms.specs.Json.{before_point, depth_after, has_ended, is_white, member_at, named_value, past_white, path_of, state_inside}
+use Rattle.log_forms.specs.Json.{value_of, value_text, without_quote}
+use Rattle.log_forms.specs.Marks.{bytes_at, first_of, is_blank}
 use Rattle.log_forms.specs.Places.{behind_text, colour_end, field_at, last_bracket, past_colour, past_colours, text_at}
 use Rattle.log_forms.specs.declared.json.JsonState.{JsonState}
 use Rattle.log_forms.specs.declared.json.JsonState.TheVariants.{Outside, Inside, Escaped}
@@ -71,12 +71,12 @@ bytes_at-end [] text = end_same text
 bytes_at-end (byte ∷ bytes) text =
     end_bind text (mark_at byte text) (λ (rest : List ℕ). bytes_at bytes rest) (mark_at-end byte text) (λ rest. bytes_at-end bytes rest)
 
-past_blanks-end : (text : List ℕ) → IsEnd text (past_blanks text)
-unfolding past_blanks
-past_blanks-end [] = end_same []
-past_blanks-end (byte ∷ text) =
-    end_either (is_blank byte) (byte ∷ text) (past_blanks text) (byte ∷ text)
-    (end_of_end (byte ∷ text) text (past_blanks text) (end_behind byte text) (past_blanks-end text)) (end_same (byte ∷ text))
+past_white-end : (text : List ℕ) → IsEnd text (past_white text)
+unfolding past_white
+past_white-end [] = end_same []
+past_white-end (byte ∷ text) =
+    end_either (is_white byte) (byte ∷ text) (past_white text) (byte ∷ text)
+    (end_of_end (byte ∷ text) text (past_white text) (end_behind byte text) (past_white-end text)) (end_same (byte ∷ text))
 
 without_quote-end : (text : List ℕ) (r : Option (List ℕ)) → EndIf text r → IsEnd text (without_quote text r)
 without_quote-end text None h = end_same text
@@ -86,16 +86,16 @@ value_text-end : (text : List ℕ) → IsEnd text (value_text text)
 value_text-end text = without_quote-end text (mark_at 34 text) (mark_at-end 34 text)
 
 -- the value after a colon
-colon-end : (blanks : List ℕ) → EndIf blanks (mark_at 58 (past_blanks blanks) >>= λ value. Some (value_text (past_blanks value)))
+colon-end : (blanks : List ℕ) → EndIf blanks (mark_at 58 (past_white blanks) >>= λ value. Some (value_text (past_white value)))
 colon-end blanks =
-    end_if blanks (past_blanks blanks) (mark_at 58 (past_blanks blanks) >>= λ value. Some (value_text (past_blanks value))) (past_blanks-end blanks)
-    (end_bind (past_blanks blanks) (mark_at 58 (past_blanks blanks)) (λ (value : List ℕ). Some (value_text (past_blanks value)))
-    (mark_at-end 58 (past_blanks blanks))
-    (λ value. end_of_end value (past_blanks value) (value_text (past_blanks value)) (past_blanks-end value) (value_text-end (past_blanks value))))
+    end_if blanks (past_white blanks) (mark_at 58 (past_white blanks) >>= λ value. Some (value_text (past_white value))) (past_white-end blanks)
+    (end_bind (past_white blanks) (mark_at 58 (past_white blanks)) (λ (value : List ℕ). Some (value_text (past_white value)))
+    (mark_at-end 58 (past_white blanks))
+    (λ value. end_of_end value (past_white value) (value_text (past_white value)) (past_white-end value) (value_text-end (past_white value))))
 
 named_value-end : (name text : List ℕ) → EndIf text (named_value name text)
 named_value-end name text =
-    let after : List ℕ → Option (List ℕ) = λ (blanks : List ℕ). mark_at 58 (past_blanks blanks) >>= λ value. Some (value_text (past_blanks value)) in
+    let after : List ℕ → Option (List ℕ) = λ (blanks : List ℕ). mark_at 58 (past_white blanks) >>= λ value. Some (value_text (past_white value)) in
     let quoted : List ℕ → Option (List ℕ) = λ (last : List ℕ). mark_at 34 last >>= after in
     let named : List ℕ → Option (List ℕ) = λ (first : List ℕ). bytes_at name first >>= quoted in
     end_bind text (mark_at 34 text) named (mark_at-end 34 text)

@@ -36,11 +36,11 @@ opens_bracket (first ∷ rest) = first == 91
 abbrev pub is_joint : Bool → ℕ → Bool
 is_joint is_count byte = (byte == 46) || ((byte == 58) && not is_count)
 
--- whether a word continues in a text: with a letter, a digit or a sign, or with a joint before a letter or a digit
+-- whether a word continues in a text: with a letter, a digit, `_` or a sign, or with a joint before a letter or a digit
 abbrev pub runs_on : Bool → List ℕ → Bool
 runs_on is_count [] = false
 runs_on is_count (first ∷ more) =
-    (is_ascii_alphanumeric first || (first == 43) || (first == 45)) || (is_joint is_count first && begins_alphanumeric more)
+    (is_ascii_alphanumeric first || (first == 95) || (first == 43) || (first == 45)) || (is_joint is_count first && begins_alphanumeric more)
 
 -- whether a mark of a row spells a byte: `#` a digit, `@` a letter, `+` a sign, `_` a space, a small letter that letter in either
 -- case, and any other mark itself
@@ -70,9 +70,34 @@ abbrev pub past_bracket : List ℕ → List ℕ
 past_bracket [] = []
 past_bracket (first ∷ rest) = if (first == 40) || (first == 91) then rest else first ∷ rest
 
--- whether a text begins with a time zone or a half of the day: behind blanks and a bracket, one of the rows spells it
+-- whether one of the rows spells a time zone or a half of the day at the front of a text
+abbrev pub spells_zone : List ℕ → Bool
+spells_zone text = list_any (λ row. spells row text) ZONES
+
+-- whether a text begins with one, behind blanks and a bracket
 abbrev pub begins_zone : List ℕ → Bool
-begins_zone text = list_any (λ row. spells row (past_bracket (past_blanks text))) ZONES
+begins_zone text = spells_zone (past_bracket (past_blanks text))
+
+-- whether a text begins with one that begins with a letter
+abbrev pub names_zone : List ℕ → Bool
+names_zone text = begins_letter text && spells_zone text
+
+-- a byte between two columns of a table: a comma, a semicolon, a bar or a quote
+abbrev pub is_separator : ℕ → Bool
+is_separator byte = (byte == 44) || ((byte == 59) || ((byte == 124) || ((byte == 34) || (byte == 39))))
+
+abbrev pub begins_separator : List ℕ → Bool
+begins_separator [] = false
+begins_separator (first ∷ rest) = is_separator first
+
+-- the rest after such bytes and blanks
+unfoldable pub past_separators : List ℕ → List ℕ
+past_separators [] = []
+past_separators (byte ∷ text) = if is_blank byte || is_separator byte then past_separators text else byte ∷ text
+
+-- whether the next column of a table begins with the name of a time zone
+abbrev pub begins_zone_column : List ℕ → Bool
+begins_zone_column text = begins_separator (past_blanks text) && names_zone (past_separators text)
 
 -- whether a text begins with a year, behind a space
 abbrev pub begins_year : List ℕ → Bool
@@ -113,7 +138,8 @@ leaves_year p rest = (lacks_year p && not (has_count p)) && begins_year rest
 
 -- whether a stamp leaves out a part of a date-time that the rest begins with
 abbrev pub leaves_out : Parts → List ℕ → List ℕ → Bool
-leaves_out p stamp rest = (not (is_whole p) && (leaves_fraction p stamp rest || begins_zone rest)) || leaves_year p rest
+leaves_out p stamp rest =
+    (not (is_whole p) && (leaves_fraction p stamp rest || (begins_zone rest || begins_zone_column rest))) || leaves_year p rest
 
 -- whether a stamp ends before the rest of its line: its last word ends there, and it leaves nothing out
 unfoldable pub is_apart : Parts → List ℕ → List ℕ → Bool

@@ -9,12 +9,12 @@ use Rattle.log_forms.specs.declared.names.FormName.TheVariants.{Rfc2822, Haproxy
 use Rattle.log_forms.specs.declared.names.FormName.TheVariants.{Bgl, Syslog, Klog, Android, Unix, UnixMs, UnixUs, UnixNs, Mysql56, Hdfs}
 use Rattle.log_forms.specs.declared.names.FormName.TheVariants.{Spark, SyslogYear, Modsecurity, Php, HourOffset, CiscoUtc, Cisco, Asa, Nxos}
 use Rattle.log_forms.specs.declared.names.FormName.TheVariants.{Django, Splunk, Clickhouse, Suricata, Redis28, Glog}
-use Rattle.log_forms.specs.declared.tables.TheConstants.{RFC3339, RFC3339_COMMA, JOURNALD, RFC5424, RFC3164, GIT, POSTGRES, CLF, GIT_DEFAULT, DATE}
-use Rattle.log_forms.specs.declared.tables.TheConstants.{RFC2822, HAPROXY, NGINX_ERROR, LOCAL_COMMA, LOCAL, TWO_SPACES, APACHE_ERROR, REDIS, TOMCAT, ERLANG}
-use Rattle.log_forms.specs.declared.tables.TheConstants.{BGL, SYSLOG, KLOG, ANDROID, UNIX, UNIX_MS, UNIX_US, UNIX_NS, MYSQL_5_6, HDFS}
-use Rattle.log_forms.specs.declared.tables.TheConstants.{SPARK, RFC5424_LEAD, RFC3164_LEAD, KLOG_LEAD, CISCO_LEAD, CISCO_UTC_LEAD}
-use Rattle.log_forms.specs.declared.tables.TheConstants.{SYSLOG_YEAR, MODSECURITY, PHP, HOUR_OFFSET, CISCO_UTC, CISCO, ASA, NXOS}
-use Rattle.log_forms.specs.declared.tables.TheConstants.{DJANGO, SPLUNK, CLICKHOUSE, SURICATA, REDIS_2_8, GLOG}
+use Rattle.log_forms.specs.declared.local_forms.TheConstants.{HAPROXY, NGINX_ERROR, LOCAL_COMMA, LOCAL, TWO_SPACES, APACHE_ERROR, REDIS, TOMCAT, ERLANG, BGL}
+use Rattle.log_forms.specs.declared.local_forms.TheConstants.{MYSQL_5_6, HDFS, SPARK, SYSLOG_YEAR, ASA, NXOS, DJANGO, CLICKHOUSE, SURICATA, GLOG}
+use Rattle.log_forms.specs.declared.offset_forms.TheConstants.{RFC3339, RFC3339_COMMA, JOURNALD, RFC5424, GIT, POSTGRES, CLF, GIT_DEFAULT, DATE, RFC2822}
+use Rattle.log_forms.specs.declared.offset_forms.TheConstants.{RFC5424_LEAD, CISCO_UTC_LEAD, MODSECURITY, PHP, HOUR_OFFSET, CISCO_UTC, SPLUNK}
+use Rattle.log_forms.specs.declared.short_forms.TheConstants.{RFC3164, SYSLOG, KLOG, ANDROID, UNIX, UNIX_MS, UNIX_US, UNIX_NS, RFC3164_LEAD, KLOG_LEAD}
+use Rattle.log_forms.specs.declared.short_forms.TheConstants.{CISCO_LEAD, CISCO, REDIS_2_8}
 
 -- the name of a form
 abbrev pub form_name : FormName → List ℕ

@@ -2,9 +2,18 @@
 use Rattle.std.specs.Prelude.{ℕ, zero, suc, ◌+◌, ◌-◌, ◌==◌, ◌&&◌, ◌||◌, Bool, true, false, List, [], ◌∷◌, drop, take, if◌then◌else◌, Option, Some, None}
 use Rattle.std.specs.Prelude.{option_map}
 use Rattle.rfc3339.specs.Reading.{◌>>=◌, mark_at}
-use Rattle.log_forms.specs.Marks.{bytes_at, first_of, past_blanks}
+use Rattle.log_forms.specs.Marks.{bytes_at, first_of}
 use Rattle.log_forms.specs.declared.json.JsonState.{JsonState}
 use Rattle.log_forms.specs.declared.json.JsonState.TheVariants.{Outside, Inside, Escaped}
+
+-- white space: a space, a tab, a line feed or a carriage return
+abbrev pub is_white : ℕ → Bool
+is_white byte = (byte == 32) || ((byte == 9) || ((byte == 10) || (byte == 13)))
+
+-- the rest after the white space at the front
+unfoldable pub past_white : List ℕ → List ℕ
+past_white [] = []
+past_white (byte ∷ text) = if is_white byte then past_white text else byte ∷ text
 
 -- the state after a byte in a text: a backslash escapes the next one, and a quote ends the text
 abbrev pub state_inside : ℕ → JsonState
@@ -23,14 +32,14 @@ without_quote text None = text
 abbrev pub value_text : List ℕ → List ℕ
 value_text text = without_quote text (mark_at 34 text)
 
--- the value of a member of this name: a quote, the name, a quote, a colon, with blanks around that
+-- the value of a member of this name: a quote, the name, a quote, a colon, with white space around that
 abbrev pub named_value : List ℕ → List ℕ → Option (List ℕ)
 named_value name text = do
   first ← mark_at 34 text
   last ← bytes_at name first
   blanks ← mark_at 34 last
-  value ← mark_at 58 (past_blanks blanks)
-  Some (value_text (past_blanks value))
+  value ← mark_at 58 (past_white blanks)
+  Some (value_text (past_white value))
 
 -- the same, in the outermost object
 unfoldable pub member_at : List ℕ → ℕ → List ℕ → Option (List ℕ)

@@ -13,7 +13,8 @@ use Rattle.format_descriptions.specs.declared.parts.Parts.{Parts}
 use Rattle.offset_times.specs.Local.{instant_of, wall_at}
 use Rattle.log_forms.specs.Forms.{form_of}
 use Rattle.log_forms.specs.Instants.{has_count, lacks_year, offset_known, with_year}
-use Rattle.log_forms.specs.Ends.{begins_year, begins_zone, runs_on}
+use Rattle.log_forms.specs.Ends.{begins_year, begins_zone, begins_zone_column, runs_on}
+use Rattle.log_forms.specs.Fronts.{ends_with_zone}
 use Rattle.log_forms.specs.Stamps.{longest_front, longest_stamp, stamp_at}
 use Rattle.log_forms.specs.declared.form.Form.{Form}
 use Rattle.log_forms.specs.declared.places.Place.{Place}
@@ -50,7 +51,7 @@ FormTextsReadBack =
 abbrev pub rest_of : Stamp → List ℕ → List ℕ
 rest_of stamp line = drop (stamp.start + stamp.length) (take longest_front line)
 
--- a stamp ends within the first 1,000 bytes of a line, where its last word ends
+-- a stamp ends within the first 65,500 bytes of a line, where its last word ends
 pub record EndsApart (line : List ℕ) (stamp : Stamp) : Type 0 where
   pub short : stamp.start + stamp.length ≤ longest_stamp
   pub apart : runs_on true (rest_of stamp line) ≡ false
@@ -68,17 +69,24 @@ without_offset assumed = record assumed { offset = None }
 abbrev pub without_year : Assumed → Assumed
 without_year assumed = record assumed { year = None }
 
--- the rest of a line goes on neither with a word of the stamp nor with a time zone or a half of the day
-pub record LeavesNoZone (rest : List ℕ) : Type 0 where
+-- what is before a stamp in its line
+abbrev pub before_of : Stamp → List ℕ → List ℕ
+before_of stamp line = take stamp.start (take longest_front line)
+
+-- the rest of a line goes on neither with a word of the stamp nor with a time zone or a half of the day, also in the next column of a
+-- table, and the last word before the stamp is no time zone
+pub record LeavesNoZone (before rest : List ℕ) : Type 0 where
   pub word : runs_on false rest ≡ false
   pub zone : begins_zone rest ≡ false
+  pub column : begins_zone_column rest ≡ false
+  pub front : ends_with_zone before ≡ false
 
 -- a stamp that is found by an assumed offset, and not without it, leaves out no zone
 abbrev pub ZonesAreNeverLeftOut : Type 0
 ZonesAreNeverLeftOut =
     (form : Form) (place : Place) (text : List ℕ) (assumed : Assumed) (line : List ℕ) (stamp : Stamp)
     → stamp_at form place text assumed line ≡ Ok stamp → IsErr (stamp_at form place text (without_offset assumed) line)
-    → LeavesNoZone (rest_of stamp line)
+    → LeavesNoZone (before_of stamp line) (rest_of stamp line)
 
 -- a stamp that is found by an assumed year, and not without it, leaves out no year
 abbrev pub YearsAreNeverLeftOut : Type 0

@@ -1,12 +1,16 @@
 pub mod Marks
 pub mod Json
+pub mod JsonGrammar
+pub mod JsonLaws
 pub mod Places
 pub mod Ends
+pub mod Fronts
 pub mod Forms
 pub mod Instants
 pub mod Stamps
 pub mod Choices
 pub mod ChoiceLaws
+pub mod ReadLaws
 pub mod Laws
 pub mod Lacking
 pub mod Years
@@ -16,3 +20,4 @@ pub mod EndLemmas
 pub mod WithinLemmas
 pub mod Splits
 pub mod Samples
+pub mod Examples

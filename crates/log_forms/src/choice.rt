@@ -1,5 +1,8 @@
 //! The choice of a form and a place by the first lines of a log.
-ghost use Rattle.std.specs.Prelude.{◌≡◌, ◌≤◌, ◌<◌, ◌*◌, ◌+◌, ◌||◌, pos, ◌+ℤ◌, IsTrue, drop, is_some, length, map, take};
+ghost use Rattle.std.specs.Prelude.{◌≡◌, ◌≤◌, ◌<◌, ◌*◌, ◌+◌, ◌||◌, pos, ◌+ℤ◌, IsTrue, Some, drop, length, map, option_map, take};
+ghost use Rattle.log_forms.specs.Forms.{items_of, lead_of};
+ghost use Rattle.log_forms.specs.Stamps.{fits, front_reading};
+ghost use Rattle.std.specs.Result.{is_ok};
 ghost use Rattle.log_forms.specs.Choices.{any_reads, best_of, better_of, choice_of, count_in, count_read, is_read_by_any, most};
 ghost use Rattle.std.specs.Char.{is_ascii_digit};
 ghost use Rattle.std.specs.List.{list_all};
@@ -10,16 +13,17 @@ ghost use Rattle.log_forms.specs.Places.{text_at};
 
 use crate::form::{Form, named_form};
 use crate::instants::Assumed;
-use crate::names::{CHOSEN, FORMS, FormName};
+use crate::names::{CHOSEN, FORMS, FormName, items_of, lead_of};
 use crate::places::{Place, text_at};
 use crate::stamps::{Stamp, front_of, stamp_at};
 use calendar_values::UtcOffset;
+use format_descriptions::{Item, parse_front};
 
-/// The number of the readers among which one is chosen: 42 forms at 36 places.
-pub const READERS: usize = 1512;
+/// The number of the readers among which one is chosen: 42 forms at 44 places.
+pub const READERS: usize = 1848;
 
 // The number of their places.
-const PLACES: usize = 36;
+const PLACES: usize = 44;
 
 /// The form of a reader, by its number: all forms that are chosen at the front, then at the next
 /// place.
@@ -82,6 +86,14 @@ pub fn reader_key(reader: usize) -> &'static str
         33 => "\"",
         34 => "#",
         35 => ": ",
+        36 => "ime\":\"",
+        37 => "ime\": \"",
+        38 => "tamp\":\"",
+        39 => "tamp\": \"",
+        40 => "='",
+        41 => ">",
+        42 => ",\"",
+        43 => "=",
         _ => "",
     }
 }
@@ -124,42 +136,93 @@ pub fn is_read_by_any(line: &[u8]) -> bool
     any_at_places(PLACES, line)
 }
 
-// Whether a reader at one of the first places finds a stamp in a line. Where the line lacks the place, no form is tried there.
+// Whether a reader at one of the first places finds a stamp in a line.
 fn any_at_places(places: usize, line: &[u8]) -> bool
-    requires { places ≤ 36 }
+    requires { places ≤ 44 }
     ensures { result ≡ any_reads (places * 42) line.now }
 {
     if places == 0 {
         return false;
     }
-    any_at_places(places - 1, line)
-        || (has_place((places - 1) * CHOSEN, line) && any_at(places - 1, CHOSEN, line))
+    any_at_places(places - 1, line) || any_at_place(places - 1, line)
 }
 
-// Whether a line has the place of a reader.
-fn has_place(reader: usize, line: &[u8]) -> bool
-    ensures { result
-        ≡ is_some (text_at (reader_place reader) (reader_key reader) (take 1024 line.now)) }
+// Whether one of the forms finds a stamp in a line at a place, by its number. Where the line lacks the place, no form is tried there.
+fn any_at_place(place: usize, line: &[u8]) -> bool
+    requires { place < 44 }
+    ensures { any_reads (place * 42 + 42) line.now ≡ (any_reads (place * 42) line.now || result) }
+{
+    match text_behind(place * CHOSEN, line) {
+        Some(rest) => any_at(place, CHOSEN, line, rest),
+        None => false,
+    }
+}
+
+// What follows the place of a reader in a line, if the line has the place.
+fn text_behind(reader: usize, line: &[u8]) -> Option<&[u8]>
+    ensures { option_map (λ rest. rest.now) result
+        ≡ text_at (reader_place reader) (reader_key reader) (take 65533 line.now) }
 {
     text_at(
         reader_place(reader),
         reader_key(reader).as_bytes(),
         front_of(line),
     )
-    .is_some()
 }
 
-// Whether one of the first forms finds a stamp in a line at a place, by its number.
-fn any_at(place: usize, forms: usize, line: &[u8]) -> bool
-    requires place { place < 36 }
+// Whether one of the first forms finds a stamp in a line at a place, by its number. What follows the place is given, so that most forms
+// are passed over by their first item.
+fn any_at(place: usize, forms: usize, line: &[u8], rest: &[u8]) -> bool
+    requires place { place < 44 }
     requires forms { forms ≤ 42 }
+    requires rest { text_at (reader_place (place * 42)) (reader_key (place * 42))
+        (take 65533 line.now) ≡ Some rest.now }
     ensures { any_reads (place * 42 + forms) line.now
         ≡ (any_reads (place * 42) line.now || result) }
 {
     if forms == 0 {
         return false;
     }
-    any_at(place, forms - 1, line) || reads(place * CHOSEN + (forms - 1), line)
+    any_at(place, forms - 1, line, rest) || reads_behind(place, forms - 1, line, rest)
+}
+
+// Whether a form finds a stamp in a line at a place, by what follows the place.
+fn reads_behind(place: usize, form: usize, line: &[u8], rest: &[u8]) -> bool
+    requires place { place < 44 }
+    requires form { form < 42 }
+    requires rest { text_at (reader_place (place * 42)) (reader_key (place * 42))
+        (take 65533 line.now) ≡ Some rest.now }
+    ensures { result ≡ reads (place * 42 + form) line.now }
+{
+    let reader = place * CHOSEN + form;
+    fits(reader_form(reader), rest) && reads(reader, line)
+}
+
+// Whether the items of a form fit the front of a text.
+fn fits(name: FormName, text: &[u8]) -> bool
+    ensures { result ≡ fits (lead_of name) (items_of name) text.now }
+{
+    match parse_front(lead_of(name), text) {
+        Ok((_, count)) => items_fit(items_of(name), behind(text, count)),
+        Err(_) => false,
+    }
+}
+
+// Whether items fit the front of a text.
+fn items_fit(items: &[Item], text: &[u8]) -> bool
+    ensures { result ≡ is_ok (front_reading items.now text.now) }
+{
+    match parse_front(items, text) {
+        Ok(_) => true,
+        Err(_) => false,
+    }
+}
+
+// A text without this many bytes in front.
+fn behind(text: &[u8], count: usize) -> &[u8]
+    ensures { result.now ≡ drop count text.now }
+{
+    text.get(count..).unwrap_or(&[])
 }
 
 // Whether a reader finds a stamp in a line, which is no count that is far from now.
@@ -265,13 +328,14 @@ fn text_of<'a>(stamp: &Stamp, line: &'a [u8]) -> &'a [u8]
 fn digits_behind_comma(text: &[u8]) -> Option<usize>
     ensures { result ≡ digits_behind_comma text.now }
 {
-    let Some((first, more)) = text.split_first() else {
-        return None;
-    };
-    if *first == b',' && are_digits(more) {
-        return Some(more.len());
+    let mut rest = text;
+    while let Some((first, more)) = rest.split_first() {
+        if *first == b',' && are_digits(more) {
+            return Some(more.len());
+        }
+        rest = more;
     }
-    digits_behind_comma(more)
+    None
 }
 
 // Whether each byte of a text is a digit.

@@ -1,9 +1,10 @@
 //! Where a stamp ends.
-ghost use Rattle.std.specs.Prelude.{◌≡◌, ◌≤◌, length};
+ghost use Rattle.std.specs.Prelude.{◌≡◌, ◌≤◌, false, length};
 ghost use Rattle.log_forms.specs.Ends.{begins_alphanumeric, begins_column, begins_comma, begins_fraction, begins_letter, begins_mark};
-ghost use Rattle.log_forms.specs.Ends.{begins_text, begins_year};
-ghost use Rattle.log_forms.specs.Ends.{begins_zone, ends_behind_comma, is_apart, is_fraction, is_joint, is_spelled};
-ghost use Rattle.log_forms.specs.Ends.{leaves_fraction, leaves_out, leaves_year, opens_bracket, past_bracket, runs_on, spells};
+ghost use Rattle.log_forms.specs.Ends.{begins_separator, begins_text, begins_year};
+ghost use Rattle.log_forms.specs.Ends.{begins_zone, begins_zone_column, ends_behind_comma, is_apart, is_fraction, is_joint, is_separator, is_spelled};
+ghost use Rattle.log_forms.specs.Ends.{leaves_fraction, leaves_out, leaves_year, names_zone, opens_bracket, past_bracket, past_separators, runs_on};
+ghost use Rattle.log_forms.specs.Ends.{spells, spells_zone};
 
 use crate::instants::{has_count, is_whole, lacks_year};
 use crate::places::{is_blank, past_blanks};
@@ -22,8 +23,8 @@ pub(crate) fn is_apart(parts: &Parts, stamp: &[u8], rest: &[u8]) -> bool
     }
 }
 
-/// Whether a word continues in the rest of a line: with a digit, a letter, `+` or `-`, or with `.`
-/// or `:` before a letter or a digit. No `:` continues a count.
+/// Whether a word continues in the rest of a line: with a digit, a letter, `_`, `+` or `-`, or with
+/// `.` or `:` before a letter or a digit. No `:` continues a count.
 #[inline(always)]
 pub fn runs_on(is_count: bool, rest: &[u8]) -> bool
     ensures { result ≡ runs_on is_count rest.now }
@@ -31,6 +32,7 @@ pub fn runs_on(is_count: bool, rest: &[u8]) -> bool
     match rest.split_first() {
         Some((first, more)) => {
             first.is_ascii_alphanumeric()
+                || *first == b'_'
                 || *first == b'+'
                 || *first == b'-'
                 || (is_joint(is_count, *first) && begins_alphanumeric(more))
@@ -61,7 +63,8 @@ pub fn opens_bracket(rest: &[u8]) -> bool
 fn leaves_out(parts: &Parts, stamp: &[u8], rest: &[u8]) -> bool
     ensures { result ≡ leaves_out parts.now stamp.now rest.now }
 {
-    (!is_whole(parts) && (leaves_fraction(parts, stamp, rest) || begins_zone(rest)))
+    (!is_whole(parts)
+        && (leaves_fraction(parts, stamp, rest) || begins_zone(rest) || begins_zone_column(rest)))
         || leaves_year(parts, rest)
 }
 
@@ -70,7 +73,7 @@ fn leaves_fraction(parts: &Parts, stamp: &[u8], rest: &[u8]) -> bool
     ensures { result ≡ leaves_fraction parts.now stamp.now rest.now }
 {
     if parts.nanosecond.is_some() {
-        begins_comma(rest) && ends_behind_comma(false, stamp)
+        begins_comma(rest) && ends_behind_comma(stamp)
     } else {
         begins_fraction(rest)
     }
@@ -131,20 +134,18 @@ fn begins_comma(text: &[u8]) -> bool
     }
 }
 
-// Whether the digits at the end of a text are behind a comma, by whether those before it are.
+// Whether the digits at the end of a text are behind a comma.
 #[tactic(auto, unfolding(crate::specs::Ends::ends_behind_comma))]
-fn ends_behind_comma(is_behind: bool, text: &[u8]) -> bool
-    ensures { result ≡ ends_behind_comma is_behind text.now }
+fn ends_behind_comma(text: &[u8]) -> bool
+    ensures { result ≡ ends_behind_comma false text.now }
 {
-    match text.split_first() {
-        Some((first, more)) => {
-            ends_behind_comma(
-                *first == b',' || (is_behind && first.is_ascii_digit()),
-                more,
-            )
-        }
-        None => is_behind,
+    let mut rest = text;
+    let mut is_behind = false;
+    while let Some((first, more)) = rest.split_first() {
+        is_behind = *first == b',' || (is_behind && first.is_ascii_digit());
+        rest = more;
     }
+    is_behind
 }
 
 // Whether a text begins with a year.
@@ -160,7 +161,60 @@ fn begins_zone(text: &[u8]) -> bool
     ensures { result ≡ begins_zone text.now }
 {
     let text = past_bracket(past_blanks(text));
-    begins_mark(text) && ZONES.iter().any(|row| spells(row, text))
+    begins_mark(text) && spells_zone(text)
+}
+
+// Whether the next column of a table begins with the name of a time zone.
+fn begins_zone_column(text: &[u8]) -> bool
+    ensures { result ≡ begins_zone_column text.now }
+{
+    begins_separator(past_blanks(text)) && names_zone(past_separators(text))
+}
+
+// Whether a text begins with the name of a time zone, or with a half of the day.
+fn names_zone(text: &[u8]) -> bool
+    ensures { result ≡ names_zone text.now }
+{
+    begins_letter(text) && spells_zone(text)
+}
+
+// Whether a row spells a time zone or a half of the day at the front of a text.
+pub(crate) fn spells_zone(text: &[u8]) -> bool
+    ensures { result ≡ spells_zone text.now }
+{
+    ZONES.iter().any(|row| spells(row, text))
+}
+
+// Whether a text begins with a byte between two columns of a table.
+fn begins_separator(text: &[u8]) -> bool
+    ensures { result ≡ begins_separator text.now }
+{
+    match text.split_first() {
+        Some((first, _)) => is_separator(*first),
+        None => false,
+    }
+}
+
+// What follows such bytes and blanks.
+#[tactic(auto, unfolding(crate::specs::Ends::past_separators))]
+fn past_separators(text: &[u8]) -> &[u8]
+    ensures { result.now ≡ past_separators text.now }
+{
+    let mut rest = text;
+    while let Some((first, more)) = rest.split_first() {
+        if !(is_blank(*first) || is_separator(*first)) {
+            return rest;
+        }
+        rest = more;
+    }
+    rest
+}
+
+// Whether a byte stands between two columns of a table: a comma, a semicolon, a bar or a quote.
+fn is_separator(byte: u8) -> bool
+    ensures { result ≡ is_separator byte }
+{
+    byte == b',' || byte == b';' || byte == b'|' || byte == b'"' || byte == b'\''
 }
 
 // The rest of a text after a bracket.
@@ -217,7 +271,7 @@ fn begins_mark(text: &[u8]) -> bool
 }
 
 // Whether a text begins with a letter.
-fn begins_letter(text: &[u8]) -> bool
+pub(crate) fn begins_letter(text: &[u8]) -> bool
     ensures { result ≡ begins_letter text.now }
 {
     match text.split_first() {

@@ -1,8 +1,10 @@
 //! Members of an object of JSON in a line.
-ghost use Rattle.std.specs.Prelude.{◌≡◌, ◌<◌, ◌≤◌, ◌+◌, drop, length, option_map, IfSome};
-ghost use Rattle.log_forms.specs.Json.{before_point, depth_after, member_at, member_of, path_of, state_inside, value_text, value_of};
+ghost use Rattle.std.specs.Prelude.{◌≡◌, ◌<◌, ◌≤◌, ◌+◌, ◌^◌, drop, length, option_map, IfSome};
+ghost use Rattle.log_forms.specs.Json.{before_point, depth_after, is_white, member_at, member_of};
+ghost use Rattle.log_forms.specs.Json.{past_white, path_of, state_inside, value_of, value_text};
+ghost use Rattle.log_forms.specs.declared.json.JsonState.TheVariants.{Outside};
 
-use crate::places::{after_bytes, after_mark, past_blanks};
+use crate::places::{after_bytes, after_mark};
 
 /// How a byte of JSON is read.
 #[derive(Clone, Copy, Debug, PartialEq, Eq)]
@@ -21,7 +23,6 @@ const MOST_LEVELS: usize = 7;
 // The value of the member of a name in the outermost object. If there is none, the points of the name separate the names of members, each
 // in the object that the one before it has.
 pub(crate) fn member_of<'a>(name: &[u8], line: &'a [u8]) -> Option<&'a [u8]>
-    requires { length line.now ≤ 1_024 }
     ensures value { option_map (λ rest. rest.now) result ≡ member_of name.now line.now }
     ensures shorter { IfSome result (λ rest. length rest.now ≤ length line.now) }
 {
@@ -31,12 +32,11 @@ pub(crate) fn member_of<'a>(name: &[u8], line: &'a [u8]) -> Option<&'a [u8]>
 // The value at a path of names, through at most so many members, in an object that begins a text, or in the outermost one.
 #[tactic(auto, using(crate::proofs::PathLemmas::path_next))]
 fn path_of<'a>(levels: usize, is_inner: bool, path: &[u8], text: &'a [u8]) -> Option<&'a [u8]>
-    requires { length text.now ≤ 1_024 }
     ensures value { option_map (λ rest. rest.now) result
         ≡ path_of levels is_inner path.now text.now }
     ensures shorter { IfSome result (λ rest. length rest.now ≤ length text.now) }
 {
-    if let Some(found) = value_of(is_inner, path, JsonState::Outside, 0, text) {
+    if let Some(found) = value_of(is_inner, path, text) {
         return Some(found);
     }
     if levels == 0 {
@@ -45,7 +45,7 @@ fn path_of<'a>(levels: usize, is_inner: bool, path: &[u8], text: &'a [u8]) -> Op
     let Some(count) = before_point(path) else {
         return None;
     };
-    match value_of(is_inner, &path[..count], JsonState::Outside, 0, text) {
+    match value_of(is_inner, &path[..count], text) {
         Some(object) => path_of(levels - 1, true, behind(count + 1, path), object),
         None => None,
     }
@@ -80,38 +80,35 @@ fn before_point(path: &[u8]) -> Option<usize>
 // The value of the first member of a name, in the outermost object, or in the object that begins a text: what follows the `"` of a text,
 // or the number.
 #[tactic(auto, unfolding(crate::specs::Json::value_of))]
-pub(crate) fn value_of<'a>(
-    is_inner: bool,
-    name: &[u8],
-    state: JsonState,
-    depth: usize,
-    line: &'a [u8],
-) -> Option<&'a [u8]>
-    requires { depth + length line.now ≤ 1_024 }
+pub(crate) fn value_of<'a>(is_inner: bool, name: &[u8], text: &'a [u8]) -> Option<&'a [u8]>
     ensures value { option_map (λ rest. rest.now) result
-        ≡ value_of is_inner name.now state depth line.now }
-    ensures shorter { IfSome result (λ rest. length rest.now ≤ length line.now) }
+        ≡ value_of is_inner name.now Outside 0 text.now }
+    ensures shorter { IfSome result (λ rest. length rest.now ≤ length text.now) }
 {
-    let Some((first, rest)) = line.split_first() else {
-        return None;
-    };
-    match state {
-        JsonState::Escaped => value_of(is_inner, name, JsonState::Inside, depth, rest),
-        JsonState::Inside => value_of(is_inner, name, state_inside(*first), depth, rest),
-        JsonState::Outside => {
-            if *first != b'"' {
-                let depth = depth_after(*first, depth);
-                if is_inner && depth == 0 {
-                    return None;
+    let mut rest = text;
+    let mut state = JsonState::Outside;
+    let mut depth = 0;
+    while let Some((first, more)) = rest.split_first() {
+        match state {
+            JsonState::Escaped => state = JsonState::Inside,
+            JsonState::Inside => state = state_inside(*first),
+            JsonState::Outside => {
+                if *first == b'"' {
+                    if let Some(value) = member_at(name, depth, rest) {
+                        return Some(value);
+                    }
+                    state = JsonState::Inside;
+                } else {
+                    depth = depth_after(*first, depth);
+                    if is_inner && depth == 0 {
+                        return None;
+                    }
                 }
-                return value_of(is_inner, name, state, depth, rest);
-            }
-            match member_at(name, depth, line) {
-                Some(value) => Some(value),
-                None => value_of(is_inner, name, JsonState::Inside, depth, rest),
             }
         }
+        rest = more;
     }
+    None
 }
 
 // The state after a byte in a text.
@@ -127,7 +124,7 @@ fn state_inside(byte: u8) -> JsonState
 
 // The number of objects and arrays that are open after a byte outside of texts.
 fn depth_after(byte: u8, depth: usize) -> usize
-    requires { depth ≤ 1_024 }
+    requires { depth + 1 < 2 ^ 64 }
     ensures value { result ≡ depth_after byte depth }
     ensures at_most { result ≤ depth + 1 }
 {
@@ -150,8 +147,31 @@ fn member_at<'a>(name: &[u8], depth: usize, text: &'a [u8]) -> Option<&'a [u8]>
     let rest = after_mark(b'"', text)?;
     let rest = after_bytes(name, rest)?;
     let rest = after_mark(b'"', rest)?;
-    let rest = after_mark(b':', past_blanks(rest))?;
-    Some(value_text(past_blanks(rest)))
+    let rest = after_mark(b':', past_white(rest))?;
+    Some(value_text(past_white(rest)))
+}
+
+// What follows the white space at the front of a text.
+#[tactic(auto, unfolding(crate::specs::Json::past_white))]
+fn past_white(text: &[u8]) -> &[u8]
+    ensures value { result.now ≡ past_white text.now }
+    ensures shorter { length result.now ≤ length text.now }
+{
+    let mut rest = text;
+    while let Some((first, more)) = rest.split_first() {
+        if !is_white(*first) {
+            return rest;
+        }
+        rest = more;
+    }
+    rest
+}
+
+// Whether a byte is a space, a tab, a line feed or a carriage return.
+fn is_white(byte: u8) -> bool
+    ensures { result ≡ is_white byte }
+{
+    byte == b' ' || byte == b'\t' || byte == b'\n' || byte == b'\r'
 }
 
 // A value without the `"` before it.

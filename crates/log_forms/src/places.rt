@@ -1,5 +1,5 @@
 //! Where in a line a stamp is.
-ghost use Rattle.std.specs.Prelude.{◌≡◌, ◌≤◌, length, option_map, IfSome, true};
+ghost use Rattle.std.specs.Prelude.{◌≡◌, ◌≤◌, length, option_map, IfSome, false, true};
 ghost use Rattle.rfc3339.specs.Reading.{mark_at};
 ghost use Rattle.log_forms.specs.Places.{behind_text, colour_end, field_at, last_bracket, past_colour, past_colours, text_at};
 ghost use Rattle.log_forms.specs.Marks.{bytes_at, is_blank, past_blanks};
@@ -28,43 +28,39 @@ pub enum Place {
 // The line from a place on. The text is the one of `After`, and the name of `Json`.
 #[tactic(auto, unfolding(crate::specs::Places::text_at))]
 pub(crate) fn text_at<'a>(place: Place, text: &[u8], line: &'a [u8]) -> Option<&'a [u8]>
-    requires { length line.now ≤ 1_024 }
     ensures value { option_map (λ rest. rest.now) result ≡ text_at place text.now line.now }
     ensures shorter { IfSome result (λ rest. length rest.now ≤ length line.now) }
 {
     match place {
         Place::Front => Some(line),
-        Place::Field(number) => field_at(true, number, line),
+        Place::Field(number) => field_at(number, line),
         Place::After => behind_text(text, line),
         Place::Json => member_of(text, line),
-        Place::Access => last_bracket(false, line),
+        Place::Access => last_bracket(line),
         Place::Coloured => past_colours(line),
     }
 }
 
-// The rest after the last bracket behind a space, before the first quote, by whether a space is before the text.
+// The rest after the last bracket behind a space, before the first quote.
 #[tactic(auto, unfolding(crate::specs::Places::last_bracket))]
-fn last_bracket(is_behind_space: bool, text: &[u8]) -> Option<&[u8]>
-    ensures value { option_map (λ rest. rest.now) result
-        ≡ last_bracket is_behind_space text.now }
+fn last_bracket(text: &[u8]) -> Option<&[u8]>
+    ensures value { option_map (λ rest. rest.now) result ≡ last_bracket false text.now }
     ensures shorter { IfSome result (λ rest. length rest.now ≤ length text.now) }
 {
-    let Some((first, rest)) = text.split_first() else {
-        return None;
-    };
-    if *first == b'"' {
-        return None;
-    }
-    match last_bracket(*first == b' ', rest) {
-        Some(found) => Some(found),
-        None => {
-            if is_behind_space && *first == b'[' {
-                Some(rest)
-            } else {
-                None
-            }
+    let mut rest = text;
+    let mut is_behind_space = false;
+    let mut found = None;
+    while let Some((first, more)) = rest.split_first() {
+        if *first == b'"' {
+            return found;
         }
+        if is_behind_space && *first == b'[' {
+            found = Some(more);
+        }
+        is_behind_space = *first == b' ';
+        rest = more;
     }
+    found
 }
 
 // The rest after one or two colours.
@@ -101,39 +97,38 @@ fn colour_end(text: &[u8]) -> Option<&[u8]>
     ensures value { option_map (λ rest. rest.now) result ≡ colour_end text.now }
     ensures shorter { IfSome result (λ rest. length rest.now ≤ length text.now) }
 {
-    let Some((first, rest)) = text.split_first() else {
-        return None;
-    };
-    if *first == b'm' {
-        return Some(rest);
+    let mut rest = text;
+    while let Some((first, more)) = rest.split_first() {
+        if *first == b'm' {
+            return Some(more);
+        }
+        if !(first.is_ascii_digit() || *first == b';') {
+            return None;
+        }
+        rest = more;
     }
-    if first.is_ascii_digit() || *first == b';' {
-        colour_end(rest)
-    } else {
-        None
-    }
+    None
 }
 
-// The line from the field with this number on, by whether a blank or the front of the line is before it.
+// The line from the field with this number on.
 #[tactic(auto, unfolding(crate::specs::Places::field_at))]
-fn field_at(is_behind_blank: bool, number: usize, line: &[u8]) -> Option<&[u8]>
-    ensures value { option_map (λ rest. rest.now) result
-        ≡ field_at is_behind_blank number line.now }
+fn field_at(number: usize, line: &[u8]) -> Option<&[u8]>
+    ensures value { option_map (λ rest. rest.now) result ≡ field_at true number line.now }
     ensures shorter { IfSome result (λ rest. length rest.now ≤ length line.now) }
 {
-    let Some((first, rest)) = line.split_first() else {
-        return None;
-    };
-    if is_blank(*first) {
-        return field_at(true, number, rest);
+    let mut rest = line;
+    let mut left = number;
+    let mut is_behind_blank = true;
+    while let Some((first, more)) = rest.split_first() {
+        let is_front = is_behind_blank && !is_blank(*first);
+        if is_front && left == 1 {
+            return Some(rest);
+        }
+        left = left.saturating_sub(is_front as usize);
+        is_behind_blank = is_blank(*first);
+        rest = more;
     }
-    if !is_behind_blank {
-        return field_at(false, number, rest);
-    }
-    if number == 1 {
-        return Some(line);
-    }
-    field_at(false, number.saturating_sub(1), rest)
+    None
 }
 
 // Whether a byte is a space or a tab.
@@ -149,13 +144,14 @@ fn behind_text<'a>(text: &[u8], line: &'a [u8]) -> Option<&'a [u8]>
     ensures value { option_map (λ rest. rest.now) result ≡ behind_text text.now line.now }
     ensures shorter { IfSome result (λ rest. length rest.now ≤ length line.now) }
 {
-    let Some((_, more)) = line.split_first() else {
-        return None;
-    };
-    match after_bytes(text, line) {
-        Some(rest) => Some(rest),
-        None => behind_text(text, more),
+    let mut rest = line;
+    while let Some((_, more)) = rest.split_first() {
+        if let Some(found) = after_bytes(text, rest) {
+            return Some(found);
+        }
+        rest = more;
     }
+    None
 }
 
 // What follows these bytes at the front of a text.
@@ -164,13 +160,16 @@ pub(crate) fn after_bytes<'a>(bytes: &[u8], text: &'a [u8]) -> Option<&'a [u8]>
     ensures value { option_map (λ rest. rest.now) result ≡ bytes_at bytes.now text.now }
     ensures shorter { IfSome result (λ rest. length rest.now ≤ length text.now) }
 {
-    let Some((first, bytes)) = bytes.split_first() else {
-        return Some(text);
-    };
-    let Some(rest) = after_mark(*first, text) else {
-        return None;
-    };
-    after_bytes(bytes, rest)
+    let mut rest = text;
+    let mut left = bytes;
+    while let Some((first, others)) = left.split_first() {
+        let Some(more) = after_mark(*first, rest) else {
+            return None;
+        };
+        rest = more;
+        left = others;
+    }
+    Some(rest)
 }
 
 // What follows a byte at the front of a text.
@@ -191,8 +190,12 @@ pub(crate) fn past_blanks(text: &[u8]) -> &[u8]
     ensures value { result.now ≡ past_blanks text.now }
     ensures shorter { length result.now ≤ length text.now }
 {
-    match text.split_first() {
-        Some((first, rest)) if is_blank(*first) => past_blanks(rest),
-        _ => text,
+    let mut rest = text;
+    while let Some((first, more)) = rest.split_first() {
+        if !is_blank(*first) {
+            return rest;
+        }
+        rest = more;
     }
+    rest
 }

@@ -10,16 +10,16 @@ ghost use Rattle.log_forms.specs.Stamps.{longest_front};
 
 use crate::ends::{is_apart, opens_bracket};
 use crate::form::Form;
+use crate::fronts::follows_no_zone;
 use crate::instants::{Assumed, instant_of_parts};
 use crate::places::{Place, text_at};
 use format_descriptions::{Item, Parts, ValueRefusal, parse_front, parse_front_into};
+use line_devices::stamp_tallies::LONGEST_STAMP;
 use utc_times::UtcDateTime;
 
-/// The most bytes of a line that decide on its stamp.
-pub const LONGEST_FRONT: usize = 1_024;
-
-// The most bytes of a line up to the end of a stamp: those after them can have a word for a zone.
-const LONGEST_STAMP: usize = 1_000;
+/// The most bytes of a line that decide on its stamp: those in which it ends, and more that can
+/// have a word for a zone.
+pub const LONGEST_FRONT: usize = 65_533;
 
 /// A stamp.
 #[derive(Clone, Copy, Debug)]
@@ -44,9 +44,9 @@ pub enum StampRefusal {
 }
 
 /// The stamp that a line has in a form, at a place. The text is the one of [`Place::After`], and
-/// the name of [`Place::Json`]. A stamp ends within the first 1,000 bytes of the line, where its
-/// last word ends. No offset, time zone or half of the day follows a stamp without an offset. No
-/// year follows a stamp without a year.
+/// the name of [`Place::Json`]. A stamp ends within the first 65,500 bytes of the line, where its
+/// last word ends. No offset, time zone or half of the day follows a stamp without an offset, and
+/// the word before it is no time zone. No year follows a stamp without a year.
 ///
 /// Fails with `Absent` if there is none. Fails with `Part` for the first part that is missing or
 /// out of its range.
@@ -63,7 +63,7 @@ pub fn stamp_at(
 {
     let front = front_of(line);
     match text_at(place, text, front) {
-        Some(rest) => stamp_behind(form, assumed, front.len(), rest),
+        Some(rest) => stamp_behind(form, assumed, front, rest),
         None => Err(StampRefusal::Absent),
     }
 }
@@ -71,8 +71,8 @@ pub fn stamp_at(
 // As many bytes of a line as decide on its stamp.
 #[tactic(auto, using(crate::proofs::FrontLemmas::fronts))]
 pub(crate) fn front_of(line: &[u8]) -> &[u8]
-    ensures value { result.now ≡ take 1024 line.now }
-    ensures short { length result.now ≤ 1_024 }
+    ensures value { result.now ≡ take 65533 line.now }
+    ensures short { length result.now ≤ 65_533 }
     ensures shorter { length result.now ≤ length line.now }
 {
     if line.len() <= LONGEST_FRONT {
@@ -81,46 +81,53 @@ pub(crate) fn front_of(line: &[u8]) -> &[u8]
     &line[..LONGEST_FRONT]
 }
 
-// The stamp after what precedes it in a text, which is the end of this many bytes.
+// The stamp after what precedes it in a text, which is the end of the front of a line.
 #[tactic(auto, using(crate::proofs::FrontLemmas::behind_nothing))]
 fn stamp_behind(
     form: &Form,
     assumed: &Assumed,
-    count: usize,
+    front: &[u8],
     text: &[u8],
 ) -> Result<Stamp, StampRefusal>
-    requires text { length text.now ≤ count }
-    requires short { count ≤ 1_024 }
-    ensures stamp { result ≡ stamp_behind form.now assumed.now count text.now }
-    ensures within { IfOk result (λ stamp. stamp.start + stamp.length ≤ count) }
+    requires text { length text.now ≤ length front.now }
+    requires short { length front.now ≤ 65_533 }
+    ensures stamp { result ≡ stamp_behind form.now assumed.now front.now text.now }
+    ensures within { IfOk result (λ stamp. stamp.start + stamp.length ≤ length front.now) }
 {
     if form.lead.is_empty() {
-        return stamp_in(form, assumed, count, text);
+        return stamp_in(form, assumed, front, text);
     }
     match parse_front(form.lead.items(), text) {
-        Ok((_, lead)) => stamp_in(form, assumed, count, &text[lead..]),
+        Ok((_, lead)) => stamp_in(form, assumed, front, &text[lead..]),
         Err(_) => Err(StampRefusal::Absent),
     }
 }
 
-// The stamp at the front of a text, which is the end of this many bytes.
+// The stamp at the front of a text, which is the end of the front of a line.
 #[tactic(auto, using(crate::proofs::SplitLemmas::no_counted_stamp))]
 fn stamp_in(
     form: &Form,
     assumed: &Assumed,
-    count: usize,
+    front: &[u8],
     text: &[u8],
 ) -> Result<Stamp, StampRefusal>
-    requires text { length text.now ≤ count }
-    requires short { count ≤ 1_024 }
-    ensures stamp { result ≡ stamp_in form.now assumed.now count text.now }
-    ensures within { IfOk result (λ stamp. stamp.start + stamp.length ≤ count) }
+    requires text { length text.now ≤ length front.now }
+    requires short { length front.now ≤ 65_533 }
+    ensures stamp { result ≡ stamp_in form.now assumed.now front.now text.now }
+    ensures within { IfOk result (λ stamp. stamp.start + stamp.length ≤ length front.now) }
 {
     let mut parts = Parts::none();
     match read_counted(form, text, &mut parts) {
         Some(rest) => {
             let length = text.len() - rest.len();
-            ended_stamp(assumed, &parts, count - text.len(), length, text)
+            ended_stamp(
+                assumed,
+                &parts,
+                front,
+                front.len() - text.len(),
+                length,
+                text,
+            )
         }
         None => Err(StampRefusal::Absent),
     }
@@ -250,27 +257,36 @@ pub(crate) fn digit_count(text: &[u8]) -> usize
     ensures value { result ≡ length (take_while is_ascii_digit text.now) }
     ensures at_most { result ≤ length text.now }
 {
-    match text.split_first() {
-        Some((first, rest)) if first.is_ascii_digit() => digit_count(rest) + 1,
-        _ => 0,
+    let mut rest = text;
+    while let Some((first, more)) = rest.split_first() {
+        if !first.is_ascii_digit() {
+            return text.len() - rest.len();
+        }
+        rest = more;
     }
+    text.len()
 }
 
-// The stamp of these parts, of which a text begins with this many bytes, if it ends before the rest.
+// The stamp of these parts, which starts at a place of the front of a line, and of which a text begins with this many bytes, if it ends
+// before the rest, and no time zone is before it.
 fn ended_stamp(
     assumed: &Assumed,
     parts: &Parts,
+    front: &[u8],
     start: usize,
     size: usize,
     text: &[u8],
 ) -> Result<Stamp, StampRefusal>
     requires within { size ≤ length text.now }
-    requires short { start + size ≤ 1_024 }
-    ensures stamp { result ≡ ended_stamp assumed.now parts.now start size text.now }
+    requires short { start + size ≤ 65_533 }
+    requires front { start ≤ length front.now }
+    ensures stamp { result ≡ ended_stamp assumed.now parts.now front.now start size text.now }
     ensures within { IfOk result (λ stamp. stamp.start + stamp.length ≤ start + size) }
 {
     let (stamp, rest) = (&text[..size], &text[size..]);
-    if start + size > LONGEST_STAMP || !is_apart(parts, stamp, rest) {
+    if start + size > LONGEST_STAMP
+        || !(is_apart(parts, stamp, rest) && follows_no_zone(parts, &front[..start]))
+    {
         return Err(StampRefusal::Absent);
     }
     match instant_of_parts(assumed, parts) {

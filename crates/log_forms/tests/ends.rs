@@ -1,6 +1,6 @@
 //! Where a stamp ends: an offset or a word for a zone that a form does not read is never left out.
-use super::{is_absent, is_read};
-use log_forms::{FormName, opens_bracket, runs_on};
+use super::{is_absent, is_read, stamp};
+use log_forms::{FormName, Place, opens_bracket, runs_on};
 use std::process::Abort;
 
 // 2024-02-29T12:00:00 one hour ahead of UTC.
@@ -101,7 +101,16 @@ fn fractions_behind_commas(rt: HostRuntime) {
         19,
         NOON,
     );
-    is_absent(&rt, FormName::NginxError, b"2024/02/29 12:00:00,200,a");
+    is_read(
+        &rt,
+        FormName::NginxError,
+        b"2024/02/29 12:00:00,200,a",
+        0,
+        19,
+        NOON,
+    );
+    is_absent(&rt, FormName::NginxError, b"2024/02/29 12:00:00,200 a");
+    is_read(&rt, form, b"2024/02/29 12:00:00,000 a", 0, 23, NOON);
 }
 
 #[test]
@@ -140,6 +149,24 @@ fn points_and_colons(rt: HostRuntime) {
 }
 
 #[test]
+fn underscores(rt: HostRuntime) {
+    is_no_local(&rt, b"2024-02-29 12:00:00_123Z x");
+    is_no_local(&rt, b"2024-02-29T12:00:00_123");
+    is_no_local(&rt, b"2024-02-29 12:00:00.5_ x");
+    is_local(&rt, b"2024-02-29 12:00:00:_ x");
+    is_absent(&rt, FormName::Rfc3339, b"2024-02-29T12:00:00+01:00_x");
+    is_absent(&rt, FormName::Unix, b"1709204400_5");
+    is_read(
+        &rt,
+        FormName::Syslog,
+        b"Feb 29 12:00:00 2019_x",
+        0,
+        15,
+        NOON,
+    );
+}
+
+#[test]
 fn years(rt: HostRuntime) {
     let form = FormName::Syslog;
     is_absent(&rt, form, b"Feb 29 12:00:00 2019 : root");
@@ -170,6 +197,46 @@ fn zones_behind_blanks_and_brackets(rt: HostRuntime) {
 }
 
 #[test]
+fn zones_in_the_next_column(rt: HostRuntime) {
+    is_no_local(&rt, b"2024-02-29 12:00:00,UTC,5");
+    is_no_local(&rt, b"2024-02-29 12:00:00\",\"CET\"");
+    is_no_local(&rt, b"2024-02-29 12:00:00 | IST | x");
+    is_no_local(&rt, b"2024-02-29 12:00:00;Europe/Paris;x");
+    is_local(&rt, b"2024-02-29 12:00:00,-12,5");
+    is_local(&rt, b"2024-02-29 12:00:00,eth0,UTC");
+    is_local(&rt, b"2024-02-29 12:00:00|INFO|UTC");
+    is_local(&rt, b"2024-02-29 12:00:00\", \"tz\": \"CET\"");
+}
+
+// Whether a form finds a stamp in the field of this number.
+fn has_stamp(form: FormName, number: usize, line: &[u8]) -> bool {
+    stamp(form, Place::Field(number), b"", line).is_ok()
+}
+
+#[test]
+fn zones_before_stamps(rt: HostRuntime) {
+    let form = FormName::Local;
+    assert_eq!(rt;
+        has_stamp(FormName::Syslog, 2, b"[IST Feb 29 12:00:00] info"),
+        false
+    );
+    assert_eq!(rt; has_stamp(form, 2, b"CET  2024-02-29 12:00:00 x"), false);
+    assert_eq!(rt;
+        has_stamp(form, 3, b"a (Europe/Paris)\t2024-02-29 12:00:00"),
+        false
+    );
+    assert_eq!(rt; has_stamp(form, 2, b"[utc] 2024-02-29 12:00:00 x"), false);
+    assert_eq!(rt; has_stamp(form, 2, b"[INFO] 2024-02-29 12:00:00 x"), true);
+    assert_eq!(rt; has_stamp(form, 3, b"IST web 2024-02-29 12:00:00 x"), true);
+    assert_eq!(rt; has_stamp(form, 2, b"PSTN 2024-02-29 12:00:00 x"), true);
+    assert_eq!(rt; has_stamp(form, 2, b"-08 2024-02-29 12:00:00 x"), true);
+    assert_eq!(rt;
+        has_stamp(FormName::Rfc3339, 2, b"IST 2024-02-29T12:00:00Z"),
+        true
+    );
+}
+
+#[test]
 fn halves_of_the_day(rt: HostRuntime) {
     is_no_local(&rt, b"2024-02-29 12:00:00 p.m. x");
     is_no_local(&rt, b"2024-02-29 12:00:00 P.M.");
@@ -186,6 +253,7 @@ fn bytes_that_continue(rt: HostRuntime) {
     assert_eq!(rt; opens_bracket(b"[UTC]"), true);
     assert_eq!(rt; opens_bracket(b" [UTC]"), false);
     assert_eq!(rt; runs_on(false, b"Z"), true);
+    assert_eq!(rt; runs_on(false, b"_"), true);
     assert_eq!(rt; runs_on(false, b":5"), true);
     assert_eq!(rt; runs_on(true, b":5"), false);
     assert_eq!(rt; runs_on(false, b": x"), false);

@@ -670,6 +670,34 @@ fn sample_of_redis_2_8(rt: HostRuntime) {
 }
 
 #[test]
+fn other_spellings(rt: HostRuntime) {
+    is_read(
+        &rt,
+        FormName::Redis28,
+        b"29 Feb 12:00:00",
+        0,
+        15,
+        1709204400000000000,
+    );
+    is_read(
+        &rt,
+        FormName::Tomcat,
+        b"29-FEB-2024 12:00:00.123",
+        0,
+        24,
+        1709204400123000000,
+    );
+    is_read(
+        &rt,
+        FormName::Git,
+        b"2024/02/29 12:00:00 +0530",
+        0,
+        25,
+        1709188200000000000,
+    );
+}
+
+#[test]
 fn sample_of_glog(rt: HostRuntime) {
     is_named(&rt, FormName::Glog, "glog", "I20240229 12:00:00.123456");
     is_read(

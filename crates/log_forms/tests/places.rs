@@ -65,6 +65,13 @@ fn members(rt: HostRuntime) {
         &rt,
         Place::Json,
         b"t",
+        b"{\"t\"\t:\r \"2024-02-29T12:00:00Z\"}",
+        9,
+    );
+    is_found(
+        &rt,
+        Place::Json,
+        b"t",
         b"{\"a\":\"\\\"t\\\":5}\",\"t\":\"2024-02-29T12:00:00Z\"}",
         21,
     );
@@ -140,4 +147,27 @@ fn paths(rt: HostRuntime) {
         b"log.time",
         b"{\"log\":1,\"y\":{\"time\":\"2024-02-29T12:00:00Z\"}}",
     );
+}
+
+#[test]
+fn members_of_long_records(rt: HostRuntime) {
+    let mut line = [b'x'; 65_540];
+    line[..8].copy_from_slice(b"{\"msg\":\"");
+    line[65_471..65_503].copy_from_slice(b"\",\"time\":\"2024-02-29T12:00:00Z\"}");
+    is_nowhere(&rt, Place::Json, b"time", &line);
+    line[65_470..65_502].copy_from_slice(b"\",\"time\":\"2024-02-29T12:00:00Z\"}");
+    is_found(&rt, Place::Json, b"time", &line, 65_480);
+    line[60_000..60_032].copy_from_slice(b"\",\"time\":\"2024-02-29T12:00:00Z\",");
+    is_found(&rt, Place::Json, b"time", &line, 60_010);
+}
+
+#[test]
+fn far_places(rt: HostRuntime) {
+    let mut line = [b'x'; 60_030];
+    line[60_000..60_023].copy_from_slice(b"  [2024-02-29T12:00:00Z");
+    line[60_023] = b']';
+    is_found(&rt, Place::After, b" [", &line, 60_003);
+    is_found(&rt, Place::Access, b"", &line, 60_003);
+    line[60_002] = b' ';
+    is_found(&rt, Place::Field(2), b"", &line, 60_003);
 }

@@ -1,23 +1,20 @@
 -- What descriptions write, and their items.
-use Rattle.std.proofs.Common.{◌≡◌, ℕ, suc, ◌<◌, ◌≤◌, true, false, nat_lt, List, [], ◌∷◌, ◌++◌, length, take, refl, sym, ap, ◌∙◌, append_assoc, arith}
+use Rattle.std.proofs.Common.{◌≡◌, ℕ, suc, ◌<◌, ◌≤◌, true, false, nat_lt, ◌*◌, ◌+◌, List, [], ◌∷◌, ◌++◌, length, take, refl, ap, ◌∙◌, arith}
 use Rattle.std.proofs.Common.{Option, Some, None, Result, Ok, Err, inl, inr}
-use Rattle.std.specs.Prelude.{min, SomeIff, OkIff, IfOk, IfErr, IsAscii}
+use Rattle.std.specs.Prelude.{SomeIff, OkIff, IfOk, IfErr, IsAscii}
 use Rattle.std.specs.List.{list_all}
 use Rattle.std.proofs.lemmas.Bool.Decides.{nat_tests}
 use Rattle.std.proofs.lemmas.Bool.{cases_Bool, and_parts}
 use Rattle.std.proofs.lemmas.List.{take_at, length-append}
 use Rattle.std.proofs.lemmas.Str.Ascii.{IsAscii-nil, IsAscii-cons}
-use Rattle.std.proofs.Math.Nat.{min-eq_left, min-eq_right, min-le_right}
-use Rattle.std.proofs.Math.Seq.{take-append_seam}
-use Rattle.format_descriptions.specs.DescriptionTexts.{SourceFault, description_source}
-use Rattle.format_descriptions.specs.SourceLengthLemmas.{description_source-enough}
+use Rattle.format_descriptions.specs.DescriptionTexts.{description_source}
+use Rattle.format_descriptions.specs.SourceLengthLemmas.{length-description_source}
 use Rattle.format_descriptions.specs.Written.{Fits}
 use Rattle.format_descriptions.specs.declared.component.Component.{Component}
 use Rattle.format_descriptions.specs.declared.description_steps.DescriptionVersion.{DescriptionVersion}
 use Rattle.format_descriptions.specs.declared.format_refusal.FormatRefusal.{FormatRefusal}
 use Rattle.format_descriptions.specs.declared.format_refusal.FormatRefusal.TheVariants.{Lacks, NoText}
 use Rattle.format_descriptions.specs.declared.item.Item.{Item}
-use Rattle.muxandu_c.specs.Answers.{status_number}
 use Rattle.muxandu_c.specs.Batches.{value_before, status_before, values_of, status_of_items}
 use Rattle.muxandu_c.specs.DescriptionItems.{item_of}
 use Rattle.muxandu_c.specs.Descriptions.{refused_if_none, item_or_refused, item_before, all_items, items_of}
@@ -142,31 +139,15 @@ room-read numbers room rest few good made =
 
 -- ---- the texts of items
 
--- the text of at most 128 items is the same in a room of 10,241 bytes as in a larger one
-pub source_room : (v : DescriptionVersion) (size : ℕ) (items : List Item) → length items ≤ 128
-    → description_source v (min size 10_241) items ≡ description_source v size items
-source_room v size items few = elim (cases_Bool (nat_lt 10_241 size)) [
+-- a text of at most 128 items has at most 10,241 bytes, in each buffer
+pub text_short : (v : DescriptionVersion) (items : List Item) (text tail there new : List ℕ) → length items ≤ 128
+    → description_source v (length there) items ≡ Ok text → new ≡ text ++ tail → length new ≡ length there → length text ≤ 10_241
+text_short v items text tail there new few written put same = elim (cases_Bool (nat_lt (length there) (80 * length items + 1))) [
   | inl t ↦
-      let more : 10_241 ≤ size = grind (arith, nat_tests, t) in
-      rw (min-eq_right more) (description_source-enough v 10_241 size items (omega (arith, few)) (omega (arith, few, more)))
+      let low : length there < 80 * length items + 1 = grind (arith, nat_tests, t) in
+      let whole : length (text ++ tail) ≡ length there = rw put at same in omega (arith, length-append text tail, whole, low, few)
   | inr f ↦
-      let less : size ≤ 10_241 = grind (arith, nat_tests, f) in rw (min-eq_left less) refl
+      let enough : 80 * length items + 1 ≤ length there = grind (arith, nat_tests, f) in
+      let short : length text ≤ 80 * length items + 1 = rw written at (length-description_source v (length there) items enough) in
+      omega (arith, short, few)
 ]
-
--- what such a room has, a buffer of this size has too
-pub source_there : (v : DescriptionVersion) (size room : ℕ) (items : List Item) (source : Result (List ℕ) SourceFault) → length items ≤ 128
-    → description_source v room items ≡ source → room ≡ min size 10_241 → description_source v size items ≡ source
-source_there v size room items source few there same = sym (source_room v size items few) ∙ (rw same at there)
-
--- the bytes at the front of a larger room
-pub front_taken : (n : ℕ) (text tail rest room all : List ℕ) → length text ≡ n → room ≡ text ++ tail → all ≡ take n (room ++ rest) → all ≡ text
-front_taken n text tail rest room all size put copied =
-    let whole : take (length text) (text ++ (tail ++ rest)) ≡ text = take-append_seam text (tail ++ rest) in
-    let there : all ≡ take (length text) ((text ++ tail) ++ rest) = rw (size, ← put) copied in
-    there ∙ (rw (append_assoc text tail rest) whole)
-
--- a text in such a room is no longer than it
-pub text_short : (room size : ℕ) (text tail new : List ℕ) → new ≡ text ++ tail → length new ≡ room → room ≡ min size 10_241 → length text ≤ 10_241
-text_short room size text tail new put full same =
-    let whole : length (text ++ tail) ≡ room = rw put at full in
-    omega (arith, length-append text tail, whole, same, min-le_right size 10_241)

@@ -5,9 +5,9 @@ use Rattle.std.proofs.Common.{inl, inr, append_assoc, length-append, refl, sym, 
 use Rattle.std.proofs.Math.Seq.{take-append_seam}
 use Rattle.std.proofs.lemmas.Bool.{cases_Bool}
 use Rattle.std.proofs.lemmas.Bool.Decides.{nat_tests}
-use Rattle.std.proofs.lemmas.List.{drop_more, drop_all, take_more_set, take-append-drop, length-take-le}
+use Rattle.std.proofs.lemmas.List.{drop_more, drop_all, take_more_set, take-append-drop, length-take, length-take-le}
 use Rattle.muxandu_c.specs.Answers.{status_number}
-use Rattle.muxandu_c.specs.FieldSpans.{next_place, ends_field, Line, Ahead, ahead_of_end, ahead_of, ended_at, is_line_end, lines_from}
+use Rattle.muxandu_c.specs.FieldSpans.{next_place, place_after, ends_field, Line, Ahead, ahead_of_end, ahead_of, ended_at, is_line_end, lines_from, is_quoted}
 use Rattle.muxandu_c.specs.FieldSpans.{span_of_field, span_of_number, spans_of_lines, spans_status}
 use Rattle.muxandu_c.specs.declared.refused.Refused.TheVariants as refused
 use Rattle.muxandu_c.specs.declared.values.MuxanduSpan.{MuxanduSpan}
@@ -39,6 +39,48 @@ unfolding ahead_of
 field-all s q place k n t x end same before =
     let here : ended_at s q k (drop k t) ≡ ahead_of s q place k (drop k t) = rw (drop_all k t end) refl in
     subst (λ (m : ℕ). ended_at s q m (drop m t) ≡ x) same (here ∙ before)
+
+-- ---- the place after a field
+
+-- one more byte
+pub place_after-more : (q place next k end : ℕ) (t : List ℕ) (d : ℕ) (x : ℕ) → k < end → end ≤ length t → next ≡ next_place q place (get_or t k d)
+    → place_after q place (take (end - k) (drop k t)) ≡ x → place_after q next (take (end - (k + 1)) (drop (k + 1) t)) ≡ x
+place_after-more q place next k end t d x low room f before =
+    let left : end - k ≡ suc (end - (k + 1)) = omega (arith, low) in
+    let inside : k < length t = omega (arith, low, room) in
+    let rest = take (end - (k + 1)) (drop (k + 1) t) in
+    let here : place_after q (next_place q place (get_or t k d)) rest ≡ place_after q place (take (end - k) (drop k t)) =
+    rw (left, drop_more t k d inside) refl in
+    ap (λ (n : ℕ). place_after q n rest) f ∙ here ∙ before
+
+-- after the first byte of a field without quotes, each byte leaves it so
+place_after-bare : (q : ℕ) (bytes : List ℕ) → place_after q 1 bytes ≡ 1
+place_after-bare q [] = refl
+place_after-bare q (byte ∷ bytes) = place_after-bare q bytes
+
+-- a field of a byte at most has no quote that closes it, nor has one that begins with another byte
+pub place_after-short : (q : ℕ) (bytes : List ℕ) → length bytes < 2 → nat_eq (place_after q 0 bytes) 3 ≡ false
+place_after-short q [] short = refl
+place_after-short q (byte ∷ []) short =
+    elim (cases_Bool (nat_eq byte q)) [
+      | inl t ↦ rw t refl
+      | inr t ↦ rw t refl
+    ]
+place_after-short q (byte ∷ next ∷ bytes) short = absurd (omega (arith, short))
+
+pub place_after-other : (q : ℕ) (byte : ℕ) (bytes : List ℕ) → nat_eq byte q ≡ false → nat_eq (place_after q 0 (byte ∷ bytes)) 3 ≡ false
+place_after-other q byte bytes other = rw (other, place_after-bare q bytes) refl
+
+pub is_quoted-short : (q : ℕ) (t : List ℕ) (start end : ℕ) → end - start < 2 → false ≡ is_quoted q t start end
+is_quoted-short q t start end short =
+    sym (place_after-short q (take (end - start) (drop start t)) (omega (arith, short, length-take (end - start) (drop start t))))
+
+pub is_quoted-other : (q : ℕ) (t : List ℕ) (start end d : ℕ) → start < end → end ≤ length t → nat_eq (get_or t start d) q ≡ false
+    → false ≡ is_quoted q t start end
+is_quoted-other q t start end d some room other =
+    let left : end - start ≡ suc (end - (start + 1)) = omega (arith, some) in
+    let inside : start < length t = omega (arith, some, room) in
+    sym (rw (left, drop_more t start d inside) (place_after-other q (get_or t start d) (take (end - (start + 1)) (drop (start + 1) t)) other))
 
 -- ---- the end of a field
 

@@ -1,6 +1,6 @@
 -- Texts of a time of day with an offset, and of an offset alone, by their form.
 use Rattle.std.proofs.Common.{◌≡◌, ◌⊎◌, inl, inr, ℕ, ℤ, ◌<◌, Bool, List, []}
-use Rattle.std.proofs.Common.{append-nil, Some, refl, ap, ◌∙◌, Result, Ok, Err, arith}
+use Rattle.std.proofs.Common.{append-nil, Some, refl, ap, Result, Ok, Err, arith}
 use Rattle.std.specs.Prelude.{codes}
 use Rattle.local_texts.specs.LocalForms.{IsFullTime, time_on_date, time_and_offset}
 use Rattle.offset_times.specs.Local.{Local}

@@ -1,5 +1,5 @@
 -- Moments so far from the ends of the range that clocks at each offset can show their instants: what each single call gives.
-use Rattle.std.proofs.Common.{◌≡◌, ◌≢◌, inl, inr, ℕ, ◌≤◌, nat_lt, Result, Ok, refl, ap, ◌∙◌, arith, false}
+use Rattle.std.proofs.Common.{◌≡◌, ◌≢◌, inl, inr, ℕ, ◌-◌, ◌%◌, ◌<◌, ◌≤◌, nat_lt, Result, Ok, refl, sym, ap, ◌∙◌, arith, false}
 use Rattle.std.proofs.Common.{ℤ, pos, negsuc, neg_ℤ, ◌+ℤ◌, ◌-ℤ◌, ◌*ℤ◌, ◌≤ℤ◌, ◌<ℤ◌, unsigned_abs, FitsSigned, w32, w64, to_z, of_z}
 use Rattle.std.proofs.lemmas.Bool.Decides.{nat_tests}
 use Rattle.std.proofs.lemmas.Int.{ints, by_lt_z}
@@ -7,7 +7,7 @@ use Rattle.std.specs.Int.{int_div_euclid, int_rem_euclid}
 use Rattle.std.specs.Ordering.{int_cmp}
 use Rattle.std.specs.declared.cmp.Ordering.{Ordering}
 use Rattle.std.specs.declared.cmp.Ordering.TheVariants.{Less, Equal, Greater}
-use Rattle.calendar_values.specs.Clock.{nanos_per_day, nanos_per_hour, nanos_per_minute, nanos_per_second}
+use Rattle.calendar_values.specs.Clock.{nanos_per_day, nanos_per_hour, nanos_per_minute, nanos_per_second, nanos_per_millisecond, nanos_per_microsecond}
 use Rattle.calendar_values.specs.Durations.{duration_of_parts, least_duration, greatest_duration, IsDurationParts}
 use Rattle.calendar_values.specs.Durations.{whole_seconds_of, subsec_nanoseconds_of}
 use Rattle.calendar_values.specs.DurationPartLemmas.{whole_seconds_of-parts, subsec_nanoseconds_of-parts}
@@ -20,8 +20,8 @@ use Rattle.utc_times.specs.UnixTime.{instant_of_second}
 use Rattle.offset_times.specs.Local.{shown_at, instant_of, local_multiple_below, wall_at}
 use Rattle.stamp_times.specs.Instants.{instant_of_parts, unix_nanosecond_of}
 use Rattle.stamp_times.specs.Refusals.{timestamp_of_parts}
-use Rattle.stamp_times.specs.TimestampLemmas.{unix_seconds_of-parts}
-use Rattle.muxandu_c.specs.InsideMoments.{IsInside, IsShort, instant_of_moment, first_inside, last_inside, rounded_down}
+use Rattle.stamp_times.specs.TimestampLemmas.{unix_seconds_of-parts, unix_nanosecond_of-parts}
+use Rattle.muxandu_c.specs.InsideMoments.{IsInside, IsShort, instant_of_moment, first_inside, last_inside, rounded_down, with_nanoseconds_below}
 use Rattle.muxandu_c.specs.Moments.{moment_value, instant_at, moment_parts, moment_add, moment_subtract, moment_compare, moment_difference}
 use Rattle.muxandu_c.specs.Moments.{moment_truncate}
 use Rattle.muxandu_c.specs.Values.{duration_value, duration_parts, instant_if_any, sign_of, unit_numbered, unit_nanos}
@@ -275,7 +275,57 @@ moment_truncate-second v h =
     truncate-inside v 4 unit.Second (s -ℤ int_rem_euclid w (pos 1)) h refl (low-second s v.offset_seconds v.nanoseconds h.nanoseconds)
     (above-second s w) (below-second s w)
 
-pub ruleset rounded_moments = (moment_truncate-day, moment_truncate-hour, moment_truncate-minute, moment_truncate-second)
+-- a truncation to less than a second
+truncate-nanoseconds : (v : MuxanduMoment) (number : ℕ) (u : Unit) (n : ℕ) → IsInside v → unit_numbered number ≡ Ok u →
+    instant_of (local_multiple_below (unit_nanos u) (wall_at (shown_at (instant_of_moment v) v.offset_seconds) v.offset_seconds))
+    ≡ instant_of_parts v.seconds n → n < nanos_per_second →
+    Ok (record { seconds = v.seconds; nanoseconds = n; offset_seconds = v.offset_seconds }) ≡ moment_truncate number v
+truncate-nanoseconds v number u n h numbered low below =
+    let seconds = unix_seconds_of-parts v.seconds n below in
+    rw (
+      timestamp-inside v.seconds v.nanoseconds h.first h.last h.nanoseconds,
+      offset-inside v.offset_seconds h.offset,
+      shown-inside (instant_of_moment v) v.offset_seconds (first-of v h) (last-of v h) h.offset,
+      numbered,
+      low,
+      instant-inside (instant_of_parts v.seconds n) (rw seconds h.first) (rw seconds h.last),
+    ) (ap ok (same_moment (sym seconds) (sym (unix_nanosecond_of-parts v.seconds n below))))
+
+low-millisecond : (s o : ℤ) (n : ℕ) → n ≤ 999_999_999 →
+    instant_of (local_multiple_below nanos_per_millisecond (wall_at (shown_at (instant_of_parts s n) o) o)) ≡ instant_of_parts s (n - n % 1_000_000)
+unfolding wall_multiple_below instant_of
+low-millisecond s o n h = omega (arith, signed_arith)
+
+low-microsecond : (s o : ℤ) (n : ℕ) → n ≤ 999_999_999 →
+    instant_of (local_multiple_below nanos_per_microsecond (wall_at (shown_at (instant_of_parts s n) o) o)) ≡ instant_of_parts s (n - n % 1_000)
+unfolding wall_multiple_below instant_of
+low-microsecond s o n h = omega (arith, signed_arith)
+
+low-nanosecond : (s o : ℤ) (n : ℕ) → instant_of (local_multiple_below 1 (wall_at (shown_at (instant_of_parts s n) o) o)) ≡ instant_of_parts s (n - n % 1)
+unfolding wall_multiple_below instant_of
+low-nanosecond s o n = omega (arith, signed_arith)
+
+pub moment_truncate-millisecond : (v : MuxanduMoment) → IsInside v → Ok (with_nanoseconds_below 1_000_000 v) ≡ moment_truncate 5 v
+moment_truncate-millisecond v h =
+    truncate-nanoseconds v 5 unit.Millisecond _ h refl (low-millisecond v.seconds v.offset_seconds v.nanoseconds h.nanoseconds) (omega (arith, h.nanoseconds))
+
+pub moment_truncate-microsecond : (v : MuxanduMoment) → IsInside v → Ok (with_nanoseconds_below 1_000 v) ≡ moment_truncate 6 v
+moment_truncate-microsecond v h =
+    truncate-nanoseconds v 6 unit.Microsecond _ h refl (low-microsecond v.seconds v.offset_seconds v.nanoseconds h.nanoseconds) (omega (arith, h.nanoseconds))
+
+pub moment_truncate-nanosecond : (v : MuxanduMoment) → IsInside v → Ok (with_nanoseconds_below 1 v) ≡ moment_truncate 7 v
+moment_truncate-nanosecond v h =
+    truncate-nanoseconds v 7 unit.Nanosecond _ h refl (low-nanosecond v.seconds v.offset_seconds v.nanoseconds) (omega (arith, h.nanoseconds))
+
+pub ruleset rounded_moments = (
+  moment_truncate-day,
+  moment_truncate-hour,
+  moment_truncate-minute,
+  moment_truncate-second,
+  moment_truncate-millisecond,
+  moment_truncate-microsecond,
+  moment_truncate-nanosecond,
+)
 
 -- numbers that come back from their bits
 

@@ -40,7 +40,7 @@ has_no : (a b : Bool) → (a || b) ≡ false → (a ≡ false) × (b ≡ false)
 has_no false b e = (refl, e)
 has_no true b e = absurd cc
 
-HasText-of : (at : Local) → year_has_no_text at.wall || offset_has_no_text at.offset ≡ false → HasText at
+pub HasText-of : (at : Local) → year_has_no_text at.wall || offset_has_no_text at.offset ≡ false → HasText at
 HasText-of at e =
     let parts = has_no (year_has_no_text at.wall) (offset_has_no_text at.offset) e in
     record {

@@ -35,6 +35,9 @@ status_number refused.Syntax = 22
 status_number refused.OffsetHour = 23
 status_number refused.OffsetMinute = 24
 status_number refused.NoText = 25
+status_number refused.Zone = 26
+status_number refused.Gap = 27
+status_number refused.Fold = 28
 
 -- the error names this part
 abbrev pub is_named : Refusal → List ℕ → Bool

@@ -1,6 +1,7 @@
--- The lines of a text and their fields, as CSV has them: a field that begins with a quote ends after the next single quote, and
--- separators and newlines within it are bytes of the field. Each field is the index of its first byte and that after its last.
-use Rattle.std.specs.Prelude.{ℕ, zero, suc, ◌+◌, ◌-◌, ◌==◌, ◌&&◌, ◌||◌, Bool, true, not, nat_lt, List, [], ◌∷◌, length, map, slice_index_or, if◌then◌else◌}
+-- The lines of a text and their fields, as CSV has them: a field that begins with a quote is closed by the next single quote, and
+-- separators and newlines before that are bytes of the field. Each field is the index of its first byte and that after its last.
+use Rattle.std.specs.Prelude.{ℕ, zero, suc, ◌+◌, ◌-◌, ◌==◌, ◌&&◌, ◌||◌, Bool, true, not, nat_lt, List, [], ◌∷◌, length, take, drop}
+use Rattle.std.specs.Prelude.{map, slice_index_or, if◌then◌else◌}
 use Rattle.muxandu_c.specs.Answers.{status_number}
 use Rattle.muxandu_c.specs.declared.refused.Refused.TheVariants as refused
 use Rattle.muxandu_c.specs.declared.values.MuxanduSpan.{MuxanduSpan}
@@ -66,10 +67,14 @@ abbrev pub trimmed_end : List ℕ → ℕ → ℕ → ℕ
 trimmed_end text start end =
     if nat_lt start end && ((slice_index_or text (end - 1) 0 == 13) && (slice_index_or text end 0 == 10)) then end - 1 else end
 
--- the field begins and ends with a quote, of two
+-- the place after these bytes of a field
+abbrev pub place_after : ℕ → ℕ → List ℕ → ℕ
+place_after quote place [] = place
+place_after quote place (byte ∷ bytes) = place_after quote (next_place quote place byte) bytes
+
+-- the last byte of the field is the quote that closes it
 abbrev pub is_quoted : ℕ → List ℕ → ℕ → ℕ → Bool
-is_quoted quote text start end =
-    nat_lt (start + 1) end && ((slice_index_or text start 0 == quote) && (slice_index_or text (end - 1) 0 == quote))
+is_quoted quote text start end = place_after quote 0 (take (end - start) (drop start text)) == 3
 
 -- the span between the quotes of a field, or of the whole field
 abbrev pub span_within : ℕ → List ℕ → ℕ → ℕ → MuxanduSpan

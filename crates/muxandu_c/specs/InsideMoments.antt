@@ -1,5 +1,5 @@
 -- Moments so far from the ends of the range that clocks at each offset can show their instants.
-use Rattle.std.specs.Prelude.{◌≤◌, ℤ, pos, neg_ℤ, ◌+ℤ◌, ◌-ℤ◌, ◌*ℤ◌, ◌≤ℤ◌}
+use Rattle.std.specs.Prelude.{ℕ, ◌-◌, ◌%◌, ◌≤◌, ℤ, pos, neg_ℤ, ◌+ℤ◌, ◌-ℤ◌, ◌*ℤ◌, ◌≤ℤ◌}
 use Rattle.std.specs.Int.{int_rem_euclid}
 use Rattle.calendar_values.specs.Offsets.{IsOffset, greatest_offset}
 use Rattle.calendar_values.specs.Range.{first_day, last_day}
@@ -36,5 +36,13 @@ abbrev pub rounded_down : ℤ → MuxanduMoment → MuxanduMoment
 rounded_down size v = record {
   seconds = v.seconds -ℤ int_rem_euclid (v.seconds +ℤ v.offset_seconds) size;
   nanoseconds = 0;
+  offset_seconds = v.offset_seconds;
+}
+
+-- the moment with its nanoseconds rounded down to a multiple of a number
+abbrev pub with_nanoseconds_below : ℕ → MuxanduMoment → MuxanduMoment
+with_nanoseconds_below size v = record {
+  seconds = v.seconds;
+  nanoseconds = v.nanoseconds - v.nanoseconds % size;
   offset_seconds = v.offset_seconds;
 }

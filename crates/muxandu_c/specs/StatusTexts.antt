@@ -36,7 +36,10 @@ refused_numbered number =
     else (if number == 23 then Some refused.OffsetHour
     else (if number == 24 then Some refused.OffsetMinute
     else (if number == 25 then Some refused.NoText
-    else None))))))))))))))))))))))))
+    else (if number == 26 then Some refused.Zone
+    else (if number == 27 then Some refused.Gap
+    else (if number == 28 then Some refused.Fold
+    else None)))))))))))))))))))))))))))
 
 -- the name of an error
 abbrev pub refused_name : Refused → List ℕ
@@ -65,6 +68,9 @@ refused_name refused.Syntax = codes "SYNTAX"
 refused_name refused.OffsetHour = codes "OFFSET_HOUR"
 refused_name refused.OffsetMinute = codes "OFFSET_MINUTE"
 refused_name refused.NoText = codes "NO_TEXT"
+refused_name refused.Zone = codes "ZONE"
+refused_name refused.Gap = codes "GAP"
+refused_name refused.Fold = codes "FOLD"
 
 -- the text of an error
 abbrev pub refused_words : Refused → List ℕ
@@ -93,6 +99,9 @@ refused_words refused.Syntax = codes "A text that does not have the form that th
 refused_words refused.OffsetHour = codes "Hours of an offset that are out of range: above 23 in a text of RFC 3339, not -25 to 25 elsewhere."
 refused_words refused.OffsetMinute = codes "Minutes of an offset that are not -59 to 59."
 refused_words refused.NoText = codes "A value that has no such text, as in RFC 3339 a year outside 0 to 9999, or an offset with seconds or beyond 23:59."
+refused_words refused.Zone = codes "Numbers that are no time zone: a part is out of range, or a transition or the rule does not follow."
+refused_words refused.Gap = codes "A wall clock that no instant has, since a time zone puts its clocks forward past it."
+refused_words refused.Fold = codes "A wall clock that two instants have, since a time zone puts its clocks back over it."
 
 -- the name and the text of an error, if there is one
 abbrev pub name_of_numbered : Option Refused → List ℕ

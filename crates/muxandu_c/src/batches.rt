@@ -10,6 +10,7 @@ ghost use Rattle.muxandu_c.specs.declared.refused.Refused.TheVariants as refused
 
 use crate::date_time_batches::fill_from_date_times;
 use crate::date_times::date_time_from_timestamp;
+use crate::day_batches::fill_from_days;
 use crate::days::{date_from_day, day_from_date};
 use crate::exchange::timestamp_from_rfc3339;
 use crate::parts::{instant_of_date_time, read_date_time};
@@ -155,7 +156,7 @@ pub extern "C" fn muxandu_seconds_from_date_times(
 }
 
 #[derive(Clone, Copy)]
-struct ToDate;
+pub(crate) struct ToDate;
 
 impl Conversion<i32, MuxanduDate> for ToDate {
     ghost value_of = { λ conversion day. date_from_day day };
@@ -176,7 +177,10 @@ pub extern "C" fn muxandu_dates_from_days(days: &[i32], out: &mut [MuxanduDate])
     ensures written { out.new ≡ batch_values date_from_day out.old days.now
         ++ drop result.count out.old }
 {
-    convert_all(ToDate, days, out)
+    if out.len() < days.len() {
+        return stop_at(0, Refused::Buffer);
+    }
+    fill_from_days(days, out)
 }
 
 #[derive(Clone, Copy)]

@@ -17,9 +17,6 @@ use format_descriptions::{
 /// The most items of a description.
 pub const MUXANDU_DESCRIPTION_ROOM: usize = 128;
 
-// The most bytes of the text of a description: 80 for each item, and one more.
-const SOURCE_ROOM: usize = 10_241;
-
 // The version of this number.
 fn version_numbered(number: u32) -> Option<DescriptionVersion>
     ensures { result ≡ version_numbered number }
@@ -183,13 +180,8 @@ fn write_items(
     ensures room { IfOk (source_of_items version (length buffer.old) items.now)
         (λ text. length text ≤ 10_241) }
 {
-    let mut text = [0; SOURCE_ROOM];
-    let room = buffer.len().min(SOURCE_ROOM);
-    match write_description(version, items, &mut text[..room]) {
-        Ok(size) => {
-            buffer[..size].copy_from_slice(&text[..size]);
-            Ok(size)
-        }
+    match write_description(version, items, buffer) {
+        Ok(size) => Ok(size),
         Err(refusal) => Err(Fault {
             place: refusal.place,
             refused: refused_items(refusal.fault),

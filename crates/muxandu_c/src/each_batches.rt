@@ -52,21 +52,32 @@ fn fill_each<A: Copy, B: Copy, C: Conversion<A, B>>(
     let mut count = 0;
     for (k, item) in items.iter().enumerate() {
         let answer = conversion.convert(*item);
-        out[k] = value_or(answer, out[k]);
+        put_value(answer, &mut out[k]);
         statuses[k] = status_of(answer);
         count += count_of(answer);
     }
     count
 }
 
-// The contents of a place after an answer.
+// The value of an answer, or another one after an error.
 #[inline(always)]
-pub(crate) fn value_or<B: Copy>(answer: Result<B, Refused>, there: B) -> B
-    ensures { result ≡ value_or answer there }
+pub(crate) fn value_or<B: Copy>(answer: Result<B, Refused>, other: B) -> B
+    ensures { result ≡ value_or answer other }
 {
     match answer {
         Ok(value) => value,
-        Err(_) => there,
+        Err(_) => other,
+    }
+}
+
+// Puts the value of an answer into a place. After an error it writes nothing, also no byte between or behind fields.
+#[inline(always)]
+pub(crate) fn put_value<B: Copy>(answer: Result<B, Refused>, there: &mut B)
+    ensures { there.new ≡ value_or answer there.old }
+{
+    match answer {
+        Ok(value) => *there = value,
+        Err(_) => {}
     }
 }
 

@@ -1,7 +1,7 @@
 //! Fields of lines.
-ghost use Rattle.std.specs.Prelude.{◌≡◌, ◌≤◌, ◌<◌, ◌++◌, length, take, drop, min, false};
+ghost use Rattle.std.specs.Prelude.{◌≡◌, ◌≤◌, ◌<◌, ◌+◌, ◌-◌, ◌++◌, length, take, drop, min, true, false};
 ghost use Rattle.muxandu_c.specs.FieldSpans.{next_place, ends_field, ahead_of, ended_at, lines_from};
-ghost use Rattle.muxandu_c.specs.FieldSpans.{trimmed_end, is_quoted, span_within, span_of_field, span_of_number};
+ghost use Rattle.muxandu_c.specs.FieldSpans.{trimmed_end, place_after, is_quoted, span_within, span_of_field, span_of_number};
 ghost use Rattle.muxandu_c.specs.FieldSpans.{field_spans, spans_status, is_line_end};
 
 use crate::batches::stop_at;
@@ -19,11 +19,12 @@ const AFTER_QUOTE: u8 = 3;
 
 /// The place of a field in each line of the block `texts`, and the number of lines in `count`.
 /// Fields count from 0. A field ends before `separator` or before the end of its line. A field that
-/// begins with `quote` ends after the next single quote, and may contain separators and newlines.
-/// Its span has the bytes between the two quotes. Two quotes in a row within it are part of the
-/// field, and its span has both. If other bytes follow the last quote, the span has all bytes of
-/// the field. Each line ends with a newline, or with a carriage return and a newline. The last line
-/// may end with the block. A line with fewer fields has an empty span at its end. If `quote` equals
+/// begins with `quote` contains separators and newlines up to the quote that closes it, the next
+/// single one. Two quotes in a row within it are part of the field, and stay two. If the closing
+/// quote is its last byte, its span has the bytes between the two quotes. If other bytes follow, or
+/// no quote closes it, its span has all bytes of the field. Each line ends with a newline, or with
+/// a carriage return and a newline, and the last line may end with the block. A line with fewer
+/// fields has an empty span, at its newline or at the end of the block. If `quote` equals
 /// `separator`, no field has quotes. Errors: BUFFER if `out` has fewer items than there are lines;
 /// the call then writes those of the first lines.
 #[unsafe(no_mangle)]
@@ -223,11 +224,28 @@ fn span_within(texts: &[u8], start: usize, end: usize, quote: u8) -> MuxanduSpan
     }
 }
 
-// Whether a field begins and ends with a quote, of two.
+// Whether a field begins with a quote, and its last byte is the quote that closes it.
 fn is_quoted(texts: &[u8], start: usize, end: usize, quote: u8) -> bool
     requires first { start ≤ end }
     requires last { end ≤ length texts.now }
-    ensures { result ≡ is_quoted quote texts.now start end }
+    ensures value { result ≡ is_quoted quote texts.now start end }
+    ensures two { result ≡ true → start + 1 < end }
 {
-    start + 1 < end && texts[start] == quote && texts[end - 1] == quote
+    if end - start < 2 || texts[start] != quote {
+        return false;
+    }
+    place_after(texts, start, end, quote) == AFTER_QUOTE
+}
+
+// The place after the bytes of a field.
+fn place_after(texts: &[u8], start: usize, end: usize, quote: u8) -> u8
+    requires first { start ≤ end }
+    requires last { end ≤ length texts.now }
+    ensures { result ≡ place_after quote 0 (take (end - start) (drop start texts.now)) }
+{
+    let mut place = START;
+    for k in start..end {
+        place = next_place(quote, place, texts[k]);
+    }
+    place
 }

@@ -1,10 +1,11 @@
 //! Moments so far from the ends of the range that clocks at each offset can show their instants.
-ghost use Rattle.std.specs.Prelude.{◌≡◌, ◌↔◌, ◌+ℤ◌, ◌-ℤ◌, ◌*ℤ◌, ◌<ℤ◌, ◌≤ℤ◌, IsTrue, pos, neg_ℤ};
+ghost use Rattle.std.specs.Prelude.{◌≡◌, ◌<◌, ◌↔◌, ◌+ℤ◌, ◌-ℤ◌, ◌*ℤ◌, ◌<ℤ◌, ◌≤ℤ◌, IsTrue, pos, neg_ℤ};
 ghost use Rattle.std.specs.Int.{int_div_euclid, int_rem_euclid};
 ghost use Rattle.std.specs.Ordering.{int_cmp};
 ghost use Rattle.calendar_values.specs.Clock.{nanos_per_second};
 ghost use Rattle.calendar_values.specs.Durations.{duration_of_parts, IsDurationParts};
 ghost use Rattle.muxandu_c.specs.InsideMoments.{IsInside, IsShort, instant_of_moment, rounded_down};
+ghost use Rattle.muxandu_c.specs.InsideMoments.{with_nanoseconds_below};
 ghost use Rattle.muxandu_c.specs.Moments.{moment_parts};
 ghost use Rattle.muxandu_c.specs.Values.{duration_parts, sign_of};
 
@@ -192,6 +193,19 @@ pub(crate) fn rounded_down(at: MuxanduMoment, size: i64) -> MuxanduMoment
     MuxanduMoment {
         seconds: at.seconds - wall.rem_euclid(size),
         nanoseconds: 0,
+        offset_seconds: at.offset_seconds,
+    }
+}
+
+// The moment with its nanoseconds rounded down to a multiple of a number.
+#[inline(always)]
+pub(crate) fn with_nanoseconds_below(at: MuxanduMoment, size: u32) -> MuxanduMoment
+    requires { 0 < size }
+    ensures { result ≡ with_nanoseconds_below size at }
+{
+    MuxanduMoment {
+        seconds: at.seconds,
+        nanoseconds: at.nanoseconds - at.nanoseconds % size,
         offset_seconds: at.offset_seconds,
     }
 }

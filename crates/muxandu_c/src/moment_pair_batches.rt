@@ -12,7 +12,7 @@ use crate::refused::{MuxanduStatus, Refused};
 use crate::values::{MuxanduBatch, MuxanduDuration};
 
 #[derive(Clone, Copy)]
-struct Add;
+pub(crate) struct Add;
 
 impl Pairing<MuxanduMoment, MuxanduDuration, MuxanduMoment> for Add {
     ghost value_of = { λ pairing first second. moment_add first second };
@@ -66,7 +66,7 @@ pub extern "C" fn muxandu_each_moment_add(
 }
 
 #[derive(Clone, Copy)]
-struct Subtract;
+pub(crate) struct Subtract;
 
 impl Pairing<MuxanduMoment, MuxanduDuration, MuxanduMoment> for Subtract {
     ghost value_of = { λ pairing first second. moment_subtract first second };
@@ -120,7 +120,7 @@ pub extern "C" fn muxandu_each_moment_subtract(
 }
 
 #[derive(Clone, Copy)]
-struct Compare;
+pub(crate) struct Compare;
 
 impl Pairing<MuxanduMoment, MuxanduMoment, i32> for Compare {
     ghost value_of = { λ pairing first second. moment_compare first second };
@@ -175,7 +175,7 @@ pub extern "C" fn muxandu_each_moment_compare(
 }
 
 #[derive(Clone, Copy)]
-struct Difference;
+pub(crate) struct Difference;
 
 impl Pairing<MuxanduMoment, MuxanduMoment, MuxanduDuration> for Difference {
     ghost value_of = { λ pairing first second. moment_difference first second };

@@ -14,6 +14,7 @@ use crate::date_sums::date_add_months;
 use crate::date_times::date_time_from_timestamp;
 use crate::inside_moments::{
     difference_inside, is_inside, is_short, later_by, order_inside, rounded_down,
+    with_nanoseconds_below,
 };
 use crate::parts::{
     checked_difference, checked_offset, checked_sum, duration_of, instant_of_date_time,
@@ -167,6 +168,9 @@ pub(crate) fn moment_truncate(at: MuxanduMoment, unit: u32) -> Result<MuxanduMom
             2 => return Ok(rounded_down(at, 3_600)),
             3 => return Ok(rounded_down(at, 60)),
             4 => return Ok(rounded_down(at, 1)),
+            5 => return Ok(with_nanoseconds_below(at, 1_000_000)),
+            6 => return Ok(with_nanoseconds_below(at, 1_000)),
+            7 => return Ok(with_nanoseconds_below(at, 1)),
             _ => {}
         }
     }

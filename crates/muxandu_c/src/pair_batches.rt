@@ -7,7 +7,7 @@ ghost use Rattle.muxandu_c.specs.PairBatches.{of_pair, pair_values, pair_status,
 ghost use Rattle.muxandu_c.specs.declared.refused.Refused.{Refused};
 
 use crate::batches::stop_at;
-use crate::each_batches::{count_of, value_or};
+use crate::each_batches::{count_of, put_value};
 use crate::refused::{Refused, status_of};
 use crate::values::MuxanduBatch;
 
@@ -124,7 +124,7 @@ fn fill_each_pair<A: Copy, B: Copy, C: Copy, P: Pairing<A, B, C>>(
     let mut count = 0;
     for (k, first) in firsts.iter().enumerate() {
         let answer = pairing.pair(*first, seconds[k]);
-        out[k] = value_or(answer, out[k]);
+        put_value(answer, &mut out[k]);
         statuses[k] = status_of(answer);
         count += count_of(answer);
     }

@@ -58,7 +58,7 @@ pub(crate) fn value_fault(items: &[Item], text: &[u8], refusal: ValueRefusal) ->
 }
 
 // The part that is at fault.
-fn part_at_fault(refusal: ValueRefusal) -> Field
+pub(crate) fn part_at_fault(refusal: ValueRefusal) -> Field
     ensures { result ≡ part_at_fault refusal }
 {
     match refusal {
@@ -122,7 +122,7 @@ fn plain_value(parts: &Parts) -> Result<MuxanduDateTime, ValueRefusal>
     Ok(parts_of(date, time, UtcOffset::UTC))
 }
 
-fn offset_value(parts: &Parts) -> Result<MuxanduDateTime, ValueRefusal>
+pub(crate) fn offset_value(parts: &Parts) -> Result<MuxanduDateTime, ValueRefusal>
     ensures { result ≡ offset_value parts.now }
 {
     let date = parts.date()?;

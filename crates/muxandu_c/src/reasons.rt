@@ -99,6 +99,43 @@ pub enum Reason {
     /// The Unix time in nanoseconds, -31619087596800000000000 to
     /// 31494784780799999999999.
     UnixNanosecond = 43,
+    /// A file of a time zone that ends before the end of a header, of a block or of its rule.
+    FileLength = 44,
+    /// A header of a file of a time zone that does not begin with `TZif`.
+    FileMagic = 45,
+    /// A version of a file of a time zone that is none of 1 to 4, or another one in its second
+    /// header.
+    FileVersion = 46,
+    /// A file of a time zone without a kind of local time, or without an abbreviation.
+    FileCount = 47,
+    /// An offset of a kind of local time that is out of range.
+    FileOffset = 48,
+    /// A mark of daylight saving time that is neither 0 nor 1.
+    FileDaylight = 49,
+    /// An abbreviation that begins past the end of their list.
+    FileDesignation = 50,
+    /// A list of abbreviations that does not end with a zero byte.
+    FileNames = 51,
+    /// A transition to a kind of local time that the file does not have.
+    FileIndex = 52,
+    /// A rule in a file that does not begin with a new line.
+    FileFooter = 53,
+    /// A text without a name where a rule has one.
+    RuleName = 54,
+    /// A text without a digit where a rule has a number.
+    RuleDigit = 55,
+    /// A number of a rule with too few digits or too many, or out of range.
+    RuleRange = 56,
+    /// Another byte than the one that must follow in a rule, or a byte after it.
+    RuleByte = 57,
+    /// A transition that is out of range, or does not follow the one before it.
+    ZoneTransition = 58,
+    /// A rule that overlaps itself in some year, or does not follow the last transition.
+    ZoneRule = 59,
+    /// More than 512 transitions of a time zone.
+    ZoneSize = 60,
+    /// A header of a file of a time zone that counts leap seconds, which Unix time has not.
+    FileLeapSeconds = 61,
 }
 
 // The reason of a text that is no description.

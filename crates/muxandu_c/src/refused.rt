@@ -65,6 +65,13 @@ pub enum Refused {
     /// A value that has no such text, as in RFC 3339 a year outside 0 to 9999, or an offset with
     /// seconds or beyond 23:59.
     NoText = 25,
+    /// Numbers that are no time zone: a part is out of range, or a transition or the rule does not
+    /// follow.
+    Zone = 26,
+    /// A wall clock that no instant has, since a time zone puts its clocks forward past it.
+    Gap = 27,
+    /// A wall clock that two instants have, since a time zone puts its clocks back over it.
+    Fold = 28,
 }
 
 impl From<ComponentRange> for Refused {

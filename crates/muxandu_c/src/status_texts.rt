@@ -40,6 +40,9 @@ fn refused_numbered(number: u32) -> Option<Refused>
         23 => Some(Refused::OffsetHour),
         24 => Some(Refused::OffsetMinute),
         25 => Some(Refused::NoText),
+        26 => Some(Refused::Zone),
+        27 => Some(Refused::Gap),
+        28 => Some(Refused::Fold),
         _ => None,
     }
 }
@@ -74,6 +77,9 @@ fn refused_name(refused: Refused) -> &'static str
         Refused::OffsetHour => "OFFSET_HOUR",
         Refused::OffsetMinute => "OFFSET_MINUTE",
         Refused::NoText => "NO_TEXT",
+        Refused::Zone => "ZONE",
+        Refused::Gap => "GAP",
+        Refused::Fold => "FOLD",
     }
 }
 
@@ -114,6 +120,12 @@ fn refused_words(refused: Refused) -> &'static str
         Refused::OffsetMinute => "Minutes of an offset that are not -59 to 59.",
         Refused::NoText =>
             "A value that has no such text, as in RFC 3339 a year outside 0 to 9999, or an offset with seconds or beyond 23:59.",
+        Refused::Zone =>
+            "Numbers that are no time zone: a part is out of range, or a transition or the rule does not follow.",
+        Refused::Gap =>
+            "A wall clock that no instant has, since a time zone puts its clocks forward past it.",
+        Refused::Fold =>
+            "A wall clock that two instants have, since a time zone puts its clocks back over it.",
     }
 }
 
@@ -147,7 +159,7 @@ pub extern "C" fn muxandu_status_name(
     ensures room { length (status_name status) ≤ 15 }
     // No other status has its name; only numbers that are no status share one.
     ensures own { (other : ℕ) → status_name other ≡ status_name status
-        → (other ≡ status) ⊎ ((25 < other) × (25 < status)) }
+        → (other ≡ status) ⊎ ((28 < other) × (28 < status)) }
 {
     let name = status_name(status).as_bytes();
     *size = name.len();
@@ -180,7 +192,7 @@ pub extern "C" fn muxandu_status_text(
     ensures ascii { is_plain (status_words status) ≡ true }
     ensures room { length (status_words status) ≤ 128 }
     ensures own { (other : ℕ) → status_words other ≡ status_words status
-        → (other ≡ status) ⊎ ((25 < other) × (25 < status)) }
+        → (other ≡ status) ⊎ ((28 < other) × (28 < status)) }
 {
     let words = status_words(status).as_bytes();
     *size = words.len();

@@ -11,10 +11,10 @@ ghost use Rattle.muxandu_c.specs.Values.{count_if_any, in_64_bits};
 ghost use Rattle.stamp_times.specs.Instants.{instant_of_parts, instant_of_milliseconds, instant_of_microseconds};
 
 use crate::parts::{
-    checked_difference, checked_sum, duration_of, read_duration, read_timestamp, sign,
-    timestamp_of, utc_in_unit,
+    checked_difference, checked_sum, duration_of, read_duration, read_timestamp, sign, timestamp_of,
 };
 use crate::refused::{MuxanduStatus, Refused, answer, status_of};
+use crate::rounded_instants::parts_in_unit;
 use crate::unit::{MuxanduUnit, read_unit};
 use crate::values::{MuxanduDuration, MuxanduTimestamp};
 use calendar_values::SignedDuration;
@@ -166,8 +166,8 @@ pub extern "C" fn muxandu_timestamp_difference(
 fn timestamp_truncate(at: MuxanduTimestamp, unit: u32) -> Result<MuxanduTimestamp, Refused>
     ensures { result ≡ timestamp_truncate at unit }
 {
-    let at = read_timestamp(at)?.to_utc();
-    Ok(timestamp_of(Timestamp::from(utc_in_unit(at, read_unit(unit)?))))
+    let at = read_timestamp(at)?;
+    Ok(parts_in_unit(at, read_unit(unit)?))
 }
 
 /// The instant, rounded down to a unit in UTC, also before 1970. Errors, in this order: those of

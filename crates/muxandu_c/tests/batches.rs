@@ -75,6 +75,29 @@ fn dates_of_days(rt: HostRuntime) {
     is(&rt, (batch.count, batch.status, days[0]), (2, 0, 19_782));
 }
 
+#[test]
+fn dates_of_groups_of_days(rt: HostRuntime) {
+    let mut dates = [date(7, 7, 7); 6];
+    let days = [11_016, -1, 19_675, 364_522_971, 47_540, 364_522_972];
+    let batch = muxandu_dates_from_days(&days, &mut dates);
+    is(
+        &rt,
+        (batch.count, batch.status, dates[4].day, dates[5].day),
+        (5, 16, 28, 7),
+    );
+    is(
+        &rt,
+        (dates[0].month, dates[1].day, dates[2].year, dates[3].day),
+        (2, 31, 2_023, 31),
+    );
+    let batch = muxandu_dates_from_days(&[0, 0, -365_961_663, 0], &mut dates);
+    is(
+        &rt,
+        (batch.count, batch.status, dates[1].year, dates[2].year),
+        (2, 16, 1_970, 2_023),
+    );
+}
+
 fn span(start: usize) -> MuxanduSpan {
     MuxanduSpan { start, length: 20 }
 }

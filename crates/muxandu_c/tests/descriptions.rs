@@ -2,6 +2,7 @@ use super::{date, is, midnight};
 use crate::description_items::MuxanduItem;
 use crate::descriptions::{muxandu_description_parse, muxandu_description_text};
 use crate::formats::{muxandu_format, muxandu_format_all, muxandu_format_items};
+use crate::parse_fronts::{muxandu_parse_front, muxandu_parse_items_front};
 use crate::parses::{muxandu_parse, muxandu_parse_all, muxandu_parse_each, muxandu_parse_items};
 use crate::values::{MuxanduDateTime, MuxanduSpan};
 
@@ -192,6 +193,29 @@ fn parses_by_items(rt: HostRuntime) {
     let found = muxandu_parse_items(3, &others, b"2023-02-28", &mut out);
     is(&rt, (found.size, found.status, found.reason), (0, 18, 0));
     is(&rt, (out.year, out.day), (7, 7));
+}
+
+#[test]
+fn parses_of_fronts(rt: HostRuntime) {
+    let items = day_items();
+    let mut out = midnight(7, 7, 7, 7);
+    let found = muxandu_parse_items_front(3, &items, b"2024-02-29 INFO", &mut out);
+    is(&rt, (found.size, found.status, found.reason), (10, 0, 0));
+    is(&rt, (out.year, out.month, out.day), (2024, 2, 29));
+    out = midnight(7, 7, 7, 7);
+    let found = muxandu_parse_items_front(3, &items, b"2023-02-29 INFO", &mut out);
+    is(&rt, (found.size, found.status, found.reason), (8, 19, 25));
+    let found = muxandu_parse_items_front(3, &items, b"INFO", &mut out);
+    is(&rt, (found.size, found.status, found.reason), (0, 22, 0));
+    let found = muxandu_parse_items_front(3, &[NONE; 6], b"2023-02-28", &mut out);
+    is(&rt, (found.size, found.status, found.reason), (0, 18, 0));
+    let form = b"[unix_timestamp] [year]";
+    let found = muxandu_parse_front(1, form, b"1709190296 2023 INFO", &mut out);
+    is(&rt, (found.size, found.status, found.reason), (15, 19, 25));
+    is(&rt, (out.year, out.day), (7, 7));
+    let found = muxandu_parse_front(1, form, b"1709190296 2024 INFO", &mut out);
+    is(&rt, (found.size, found.status, found.reason), (15, 0, 0));
+    is(&rt, (out.month, out.day, out.hour), (2, 29, 7));
 }
 
 #[test]

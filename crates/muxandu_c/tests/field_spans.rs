@@ -28,6 +28,26 @@ fn fields_of_lines(rt: HostRuntime) {
 }
 
 #[test]
+fn quotes_that_do_not_close(rt: HostRuntime) {
+    let mut out = [MuxanduSpan {
+        start: 7,
+        length: 7,
+    }; 4];
+    let block = b"\"a\";\",x\n\"b\" \n\"c\"\r\n\"de\"\"";
+    let done = muxandu_field_spans(block, 0, b',', b'"', &mut out);
+    is(&rt, (done.count, done.status), (4, 0));
+    // Bytes follow the quote that closes the first two, and no quote closes the last.
+    is(&rt, (out[0].start, out[0].length), (0, 5));
+    is(&rt, (out[1].start, out[1].length), (8, 4));
+    is(&rt, (out[2].start, out[2].length), (14, 1));
+    is(&rt, (out[3].start, out[3].length), (18, 5));
+    let done = muxandu_field_spans(block, 1, b',', b'"', &mut out);
+    is(&rt, (done.count, done.status), (4, 0));
+    is(&rt, (out[0].start, out[0].length), (6, 1));
+    is(&rt, (out[2].start, out[2].length), (17, 0));
+}
+
+#[test]
 fn lines_without_room(rt: HostRuntime) {
     let mut out = [MuxanduSpan {
         start: 7,

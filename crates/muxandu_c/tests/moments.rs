@@ -135,6 +135,21 @@ fn moments_in_a_unit(rt: HostRuntime) {
 }
 
 #[test]
+fn moments_in_less_than_a_second(rt: HostRuntime) {
+    let moments = [
+        moment(-1, 987_654_321, 19_800),
+        moment(LAST, 987_654_321, 0),
+    ];
+    let mut out = [NONE, NONE];
+    for (unit, nanoseconds) in [(5, 987_000_000), (6, 987_654_000), (7, 987_654_321)] {
+        let batch = muxandu_moments_truncate(&moments, unit, &mut out);
+        is(&rt, (batch.count, batch.status), (2, 0));
+        is(&rt, numbers(out[0]), (-1, nanoseconds, 19_800));
+        is(&rt, numbers(out[1]), (LAST, nanoseconds, 0));
+    }
+}
+
+#[test]
 fn months_after_moments(rt: HostRuntime) {
     // 31 January 2024, 23:30 at +05:30.
     let moments = [moment(1_706_724_000, 5, 19_800), moment(LAST, 0, 0)];

@@ -5,7 +5,11 @@ use crate::exchange::{
     muxandu_timestamp_to_rfc3339, muxandu_timestamp_to_rfc3339_nanos,
 };
 use crate::fronts::{muxandu_date_time_from_rfc3339_front, muxandu_rfc3339_fault};
+use crate::iso_exchange::{
+    muxandu_date_time_from_iso, muxandu_date_time_to_iso, muxandu_iso_fault,
+};
 use crate::leap_texts::muxandu_date_time_from_rfc3339_leap;
+use crate::mail_texts::muxandu_date_time_from_rfc2822;
 use crate::texts::{muxandu_date_time_text, muxandu_timestamp_text};
 
 // The status of a call that writes a text, and the length that it tells.
@@ -67,6 +71,27 @@ fn texts_of_date_times(rt: HostRuntime) {
         );
         is(&rt, told, (0, length));
     }
+}
+
+#[test]
+fn texts_of_every_year(rt: HostRuntime) {
+    for (shown, room, expected) in [
+        (midnight(1996, 12, 19, -28_800), 41, (0, 25)),
+        (midnight(1996, 12, 19, 1), 41, (0, 28)),
+        (midnight(-4712, 11, 24, 0), 41, (0, 23)),
+        (midnight(-4712, 11, 24, 0), 22, (20, 23)),
+        (midnight(-4712, 11, 31, 0), 41, (4, 7)),
+    ] {
+        let mut buffer = [0; 41];
+        let told = told!(muxandu_date_time_to_iso(shown), &mut buffer[..room]);
+        is(&rt, told, expected);
+    }
+    let mut out = midnight(1970, 1, 1, 0);
+    let status = muxandu_date_time_from_iso(b"-004712-11-24T00:00:00+00:00:01", &mut out);
+    is(&rt, (status, out.year, out.offset_seconds), (0, -4712, 1));
+    let status = muxandu_date_time_from_iso(b"+010000-02-30T00:00:00Z", &mut out);
+    is(&rt, (status, out.year, out.offset_seconds), (4, -4712, 1));
+    is(&rt, muxandu_iso_fault(b"-004712"), 7);
 }
 
 #[test]
@@ -150,5 +175,21 @@ fn texts_with_leap_seconds(rt: HostRuntime) {
         let (mut out, mut is_leap) = (midnight(7, 7, 7, 7), 7);
         let status = muxandu_date_time_from_rfc3339_leap(text.as_bytes(), &mut out, &mut is_leap);
         is(&rt, (status, out.second, out.nanosecond, is_leap), expected);
+    }
+}
+
+// The instants are those of `parsedate_to_datetime` of Python.
+#[test]
+fn texts_of_mail(rt: HostRuntime) {
+    for (text, expected) in [
+        ("Fri, 21 Nov 1997 09:55:06 -0600", (0, 1997, 6, -21_600)),
+        ("7 Sep 02 00:00 EST (New York)", (0, 2002, 0, -18_000)),
+        ("Mon, 07 Sep 2002 00:00:01 GMT", (19, 7, 0, 7)),
+        ("07 Sep +2002 00:00:01 GMT", (22, 7, 0, 7)),
+    ] {
+        let mut out = midnight(7, 7, 7, 7);
+        let status = muxandu_date_time_from_rfc2822(text.as_bytes(), &mut out);
+        let shown = (status, out.year, out.second, out.offset_seconds);
+        is(&rt, shown, expected);
     }
 }

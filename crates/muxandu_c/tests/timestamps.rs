@@ -85,11 +85,16 @@ fn timestamps_no_later_than_the_last(rt: HostRuntime) {
 fn timestamps_at_the_begin_of_a_unit(rt: HostRuntime) {
     for (unit, expected) in [
         (1, (0, -86_400, 0)),
-        (7, (0, -1, 500_000_000)),
+        (2, (0, -3_600, 0)),
+        (3, (0, -60, 0)),
+        (4, (0, -1, 0)),
+        (5, (0, -1, 987_000_000)),
+        (6, (0, -1, 987_654_000)),
+        (7, (0, -1, 987_654_321)),
         (8, (18, 7, 7)),
     ] {
         let (status, out) = called!(
-            muxandu_timestamp_truncate(at(-1, 500_000_000), unit),
+            muxandu_timestamp_truncate(at(-1, 987_654_321), unit),
             at(7, 7)
         );
         is(&rt, (status, out.seconds, out.nanoseconds), expected);

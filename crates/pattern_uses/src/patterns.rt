@@ -3,8 +3,7 @@ ghost use Rattle.std.specs.Prelude.{◌≡◌, ◌==◌, ◌-◌, ◌∷◌, [],
 ghost use Rattle.std.specs.List.{HoldsAt};
 ghost use Rattle.std.specs.Result.{result_map_both};
 ghost use Rattle.calendar_values.specs.Texts.{date_text};
-ghost use Rattle.offset_times.specs.Local.{Local, instant_of};
-ghost use Rattle.rfc3339.specs.Reading.{reading_of};
+ghost use Rattle.offset_times.specs.Local.{instant_of};
 ghost use Rattle.format_descriptions.specs.ClockValues.{HasTimeParts};
 ghost use Rattle.format_descriptions.specs.DateTimeValues.{IsLeapStandIn};
 ghost use Rattle.format_descriptions.specs.Descriptions.{items_of_description};
@@ -12,6 +11,7 @@ ghost use Rattle.format_descriptions.specs.InstantValues.{HasInstantParts};
 ghost use Rattle.format_descriptions.specs.Iso8601.{iso8601_form, iso8601_date_items, iso8601_time_items};
 ghost use Rattle.format_descriptions.specs.Known.{date_items};
 ghost use Rattle.format_descriptions.specs.Read.{items_at, no_parts};
+ghost use Rattle.format_descriptions.specs.Rfc2822.{mail_parts};
 ghost use Rattle.format_descriptions.specs.Values.{HasDateParts};
 ghost use Rattle.format_descriptions.specs.WellKnown.{rfc2822_items};
 ghost use Rattle.format_descriptions.specs.Written.{described_text};
@@ -27,7 +27,7 @@ use format_descriptions::laws::displays_are_descriptions;
 use format_descriptions::{
     Component, DescriptionFault, DescriptionVersion, Iso8601, Item, Padding, Parts, Sign, YearBase,
     YearRange, format, format_iso8601, format_rfc2822, parse, parse_description,
-    parse_iso8601_date, parse_iso8601_time, parse_rfc2822, parse_rfc3339,
+    parse_iso8601_date, parse_iso8601_time, parse_rfc2822,
 };
 use offset_times::OffsetDateTime;
 use stamp_times::Timestamp;
@@ -82,8 +82,7 @@ pub fn mail_date(at: OffsetDateTime) -> Option<Text>
 
 /// The parts of the date of a mail's header. None if the text is not written so.
 pub fn parts_of_mail_date(text: &[u8]) -> Option<Parts>
-    ensures { IfSome result (λ parts.
-        items_at rfc2822_items text.now no_parts ≡ Ok parts) }
+    ensures { IfSome result (λ parts. mail_parts text.now ≡ Ok parts) }
 {
     parse_rfc2822(text).ok()
 }
@@ -156,17 +155,6 @@ pub fn instant_of_mail(text: &[u8]) -> Option<(OffsetDateTime, bool)>
         Ok(read) => Some(read),
         Err(_) => None,
     }
-}
-
-/// The date-time of a text of RFC 3339, by its parts. None if the text is not written so, or if its
-/// parts are no value. It has every date-time that `rfc3339::parse_rfc3339` reads.
-pub fn date_time_by_parts(text: &[u8]) -> Option<OffsetDateTime>
-    ensures { (at : Local) → reading_of text.now ≡ Ok at → result ≡ Some at }
-{
-    let Ok(parts) = parse_rfc3339(text) else {
-        return None;
-    };
-    parts.offset_date_time().ok()
 }
 
 /// The text of a date-time in a form of ISO 8601. None if the form has none for it.

@@ -2,6 +2,7 @@
 use std::fmt::Debug;
 use std::process::Abort;
 
+mod log_lines;
 mod patterns;
 
 // Ends the test unless the two values are equal.

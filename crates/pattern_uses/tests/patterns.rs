@@ -124,6 +124,9 @@ fn descriptions_are_stored_and_restored(rt: HostRuntime) -> Result<(), Fail> {
     let mut room = [0_u8; 8];
     is(&rt, written_patterns::store(&items, &mut room), Some(3));
     assert_eq!(rt; &room[..3], b"\\[h".as_slice());
+    let mut short = [7_u8; 2];
+    is(&rt, written_patterns::store(&items, &mut short), None);
+    is(&rt, short, [7; 2]);
     let mut places = [Item::Byte(0); 4];
     is(
         &rt,

@@ -2,19 +2,31 @@ pub mod AheadLemmas
 pub mod BlockLemmas
 pub mod BoundLawLemmas
 pub mod BucketProofLemmas
+pub mod BucketLawLemmas
+pub mod ChangeLawLemmas
+pub mod ChangeRunLemmas
 pub mod CheckLawLemmas
 pub mod CutLawLemmas
+mod CutTwiceLemmas
+pub mod FirstYearLemmas
+pub mod FrontLawLemmas
 pub mod FrontLemmas
+pub mod FrontRunLemmas
 pub mod GapLawLemmas
+pub mod LeadingLawLemmas
+pub mod LeadingLemmas
 pub mod LineLawLemmas
 pub mod LongLineLemmas
 pub mod MergeLawLemmas
+pub mod NearestLemmas
 pub mod PartLemmas
 pub mod ReadLemmas
 mod ReadingLemmas
 pub mod RunLemmas
 pub mod StampLawLemmas
+pub mod StampedLemmas
 pub mod StepLemmas
+pub mod SoonLemmas
 pub mod StyleLemmas
 pub mod TallyLemmas
 pub mod TurnLemmas
@@ -22,3 +34,4 @@ pub mod UsageLawLemmas
 pub mod UtcLawLemmas
 pub mod ValueLawLemmas
 pub mod WrittenLawLemmas
+pub mod YearLawLemmas

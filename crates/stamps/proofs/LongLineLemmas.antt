@@ -2,7 +2,7 @@
 use Rattle.std.proofs.Common.{◌≡◌, ℕ, ◌+◌, ◌-◌, ◌≤◌, ◌<◌, Bool, true, false, cond, nat_eq, List, [], ◌∷◌, ◌++◌, length, length-append, take, drop, Option}
 use Rattle.std.proofs.Common.{Some, None, Result, Ok, Err, ℤ}
 use Rattle.std.proofs.Common.{inl, inr, refl, sym, ap, subst, ◌∙◌, arith, append_assoc, append-nil}
-use Rattle.std.specs.Prelude.{⊤, ◌&&◌, ◌-ℤ◌, int_lt, slice_get}
+use Rattle.std.specs.Prelude.{⊤, IfOk, is_ok, ◌&&◌, ◌-ℤ◌, int_lt, nat_le, if◌then◌else◌, slice_get}
 use Rattle.std.specs.Result.{result_map_both}
 use Rattle.std.proofs.lemmas.Bool.{cases_Bool}
 use Rattle.std.proofs.lemmas.Bool.Decides.{Decides-eqb, nat_tests}
@@ -20,10 +20,15 @@ use Rattle.rfc3339.specs.declared.refusal.TextRefusal.{TextRefusal}
 use Rattle.rfc3339.specs.declared.refusal.TextRefusal.TheVariants.{Syntax}
 use Rattle.rfc3339.specs.declared.refusal.TextRefusal.TheVariants as text
 use Rattle.stamps.specs.Decisions.{as_it_is, with_text, rewritten, is_earlier, stop_if, check_line, gap_after, gap_line, going_on, cause_of, is_first, as_note}
-use Rattle.stamps.specs.Decisions.{decision_by, decision_of, line_kind, state_by, state_after}
+use Rattle.stamps.specs.Changes.{choice_after, reader_by, tried, with_one_more}
+use Rattle.stamps.specs.Decisions.{decision_by, decision_of, line_kind, one_more, stamp_after, state_by, state_after}
+use Rattle.stamps.specs.ZonedLemmas.{assumed_stamp-longer, assumed_stamp-within}
 use Rattle.stamps.specs.LineStamps.{byte_order_mark, ends, front_stamp, has_mark, longest_head, mark_length, stamp, stamp_of}
+use Rattle.line_devices.specs.StampTallyLemmas.{kind_of-longer}
 use Rattle.line_devices.specs.declared.stamp_tallies.LineKind.{LineKind}
-use Rattle.log_forms.specs.WithinLemmas.{stamp_at-longer, stamp_at-within}
+use Rattle.line_devices.specs.declared.stamp_tallies.LineKind.TheVariants.{Stamped, Bare, Continued, Empty, Long}
+use Rattle.stamps.specs.declared.changes.Anew.{Anew}
+use Rattle.stamps.specs.declared.changes.Choice.{Choice}
 use Rattle.log_forms.specs.WithinLemmas as forms
 use Rattle.log_forms.specs.Years.{assumed_after}
 use Rattle.log_forms.specs.declared.places.Place.{Place}
@@ -53,16 +58,22 @@ use Rattle.stamps.specs.declared.readers.Reader.TheVariants.{Plain, Formed}
 use Rattle.stamps.specs.declared.readers.ValueKind.{ValueKind}
 use Rattle.stamps.specs.declared.readers.ValueKind.TheVariants.{Number, Quoted, Other}
 use Rattle.stamps.specs.declared.task.Action.{Action}
-use Rattle.stamps.specs.declared.task.Action.TheVariants.{Write, Check, CheckAll, Gaps, Since, Until}
+use Rattle.stamps.specs.declared.task.Action.TheVariants.{Write, Check, CheckAll, Gaps, Since, Until, Between}
 use Rattle.stamps.specs.declared.task.Style.{Style}
 use Rattle.stamps.specs.declared.task.Task.{Task}
 use Rattle.stamps.proofs.RunLemmas.{run_from, then_on-text}
 
 -- a text of no more bytes than are looked at for a stamp
-pub front_whole : (text : List ℕ) → length text ≤ 1024 → text ≡ take 1024 text
-front_whole text short = sym (take_all 1024 text short)
+pub front_whole : (text : List ℕ) → length text ≤ 65533 → text ≡ take 65533 text
+front_whole text short = sym (take_all 65533 text short)
 
 pub ruleset fronts = (front_whole)
+
+-- a line of no more bytes than choose a form
+pub beginning_whole : (line : List ℕ) → length line ≤ 1024 → line ≡ take 1024 line
+beginning_whole line short = sym (take_all 1024 line short)
+
+pub ruleset beginnings = (beginning_whole)
 
 -- ---- a byte order mark
 
@@ -99,9 +110,8 @@ StampWithin (Ok stamp) most = stamp.length ≤ most
 StampWithin (Err refusal) most = ⊤
 
 -- a stamp ends within so many bytes of its line
-abbrev LineStampWithin : Result LineStamp LineRefusal → ℕ → Type 0
-LineStampWithin (Ok stamp) most = stamp.start + stamp.length ≤ most
-LineStampWithin (Err refusal) most = ⊤
+abbrev pub LineStampWithin : Result LineStamp LineRefusal → ℕ → Type 0
+LineStampWithin found most = IfOk found (λ stamp. stamp.start + stamp.length ≤ most)
 
 -- the bytes that are kept in front and those that go stand in the line
 abbrev pub Within : Decision → List ℕ → Type 0
@@ -126,7 +136,7 @@ front_within front (Some read) most h =
 stamp_within : (text : List ℕ) → StampWithin (stamp_of text) (length text)
 unfolding stamp_of
 stamp_within text =
-    let front = take 1024 text in front_within front (front_at front) (length text) (omega (arith, length-take 1024 text))
+    let front = take 65533 text in front_within front (front_at front) (length text) (omega (arith, length-take 65533 text))
 
 plain-within : (before : ℕ) (line : List ℕ) (r : Result Stamp TextRefusal) → before ≤ length line → StampWithin r (length (drop before line))
     → LineStampWithin (plain_at before r) (length line)
@@ -144,9 +154,9 @@ quote_within : (text : List ℕ) (place : ℕ) (o : Option ℕ) → slice_get te
 quote_within text place None e h = absurd (false≢true h)
 quote_within text place (Some byte) e h = slice_get_within text place byte e
 
-json_kind-within : (line : List ℕ) (stamp : formed.Stamp) → KindWithin (json_kind (take 1024 line) stamp) stamp (length line)
+json_kind-within : (line : List ℕ) (stamp : formed.Stamp) → KindWithin (json_kind (take 65533 line) stamp) stamp (length line)
 json_kind-within line stamp =
-    let front = take 1024 line in
+    let front = take 65533 line in
     let behind = stamp.start + stamp.length in
     elim (cases_Bool (nat_eq stamp.start 0)) [
       | inl t ↦ rw t tt
@@ -157,7 +167,7 @@ json_kind-within line stamp =
                   | inl v ↦
                       let some : 1 ≤ stamp.start = grind (arith, nat_tests) in
                       let low = quote_within front behind (slice_get front behind) refl v in
-                      rw (t, u, v) (some, omega (arith, low, length-take 1024 line))
+                      rw (t, u, v) (some, omega (arith, low, length-take 65533 line))
                   | inr v ↦ rw (t, u, v) tt
                 ]
             | inr u ↦ rw (t, u) tt
@@ -166,7 +176,7 @@ json_kind-within line stamp =
 
 value_kind-within : (place : Place) (line : List ℕ) (stamp : formed.Stamp) → KindWithin (value_kind place line stamp) stamp (length line)
 value_kind-within place line stamp = either (is_json place) where
-  either : (b : Bool) → KindWithin (cond b (json_kind (take 1024 line) stamp) Other) stamp (length line)
+  either : (b : Bool) → KindWithin (cond b (json_kind (take 65533 line) stamp) Other) stamp (length line)
   either true = json_kind-within line stamp
   either false = tt
 
@@ -191,9 +201,9 @@ behind-within Plain last before line low =
     plain-within before line (stamp_of (drop before line)) low (stamp_within (drop before line))
 behind-within (Formed by) last before line low =
     formed-within before by.place line (form_stamp by last (drop before line)) low
-    (stamp_at-within by.form by.place by.text (assumed_after by.assumed last) (drop before line))
+    (assumed_stamp-within by.zone by (assumed_after by.assumed last) (drop before line))
 
-line_stamp-within : (reader : Reader) (last : Option ℤ) (is_first : Bool) (line : List ℕ)
+pub line_stamp-within : (reader : Reader) (last : Option ℤ) (is_first : Bool) (line : List ℕ)
     → LineStampWithin (line_stamp reader last is_first line) (length line)
 line_stamp-within reader last is_first line =
     behind-within reader last (mark_length (has_mark is_first line)) line (mark-within is_first line)
@@ -255,22 +265,23 @@ going_on-within : (b : Bool) (line : List ℕ) → Within (going_on b) line
 going_on-within true line = omega arith
 going_on-within false line = tt
 
-decision_by-within : (action : Action) (before after : State) (stamp : Result LineStamp LineRefusal) (line : List ℕ)
-    → LineStampWithin stamp (length line) → Within (decision_by action before after stamp) line
-decision_by-within (Write style is_strict) before after stamp line h = rewritten-within style is_strict after.lines stamp line h
-decision_by-within (Check is_strict) before after stamp line h = check_line-within is_strict after.lines before.last stamp line
-decision_by-within (CheckAll is_strict) before after stamp line h =
-    as_note-within (check_line is_strict after.lines before.last stamp) line (check_line-within is_strict after.lines before.last stamp line)
-decision_by-within (Gaps limit is_strict) before after stamp line h = gap_line-within limit is_strict after.lines before.latest stamp line
-decision_by-within (Since bound) before after stamp line h = going_on-within after.goes_on line
-decision_by-within (Until bound) before after stamp line h = going_on-within after.goes_on line
+decision_by-within : (action : Action) (last latest : Option ℤ) (after : State) (stamp : Result LineStamp LineRefusal) (line : List ℕ)
+    → LineStampWithin stamp (length line) → Within (decision_by action last latest after stamp) line
+decision_by-within (Write style is_strict) last latest after stamp line h = rewritten-within style is_strict after.lines stamp line h
+decision_by-within (Check is_strict) last latest after stamp line h = check_line-within is_strict after.lines last stamp line
+decision_by-within (CheckAll is_strict) last latest after stamp line h =
+    as_note-within (check_line is_strict after.lines last stamp) line (check_line-within is_strict after.lines last stamp line)
+decision_by-within (Gaps limit is_strict) last latest after stamp line h = gap_line-within limit is_strict after.lines latest stamp line
+decision_by-within (Since bound) last latest after stamp line h = going_on-within after.goes_on line
+decision_by-within (Until bound) last latest after stamp line h = going_on-within after.goes_on line
+decision_by-within (Between from to) last latest after stamp line h = going_on-within after.goes_on line
 
 pub decision_of-within : (task : Task) (state : State) (line : List ℕ) → Within (decision_of task state line) line
 unfolding decision_of
 decision_of-within task state line =
-    let stamp = line_stamp task.reader state.last (is_first state) line in
-    decision_by-within task.action state (state_by task.action state (line_kind line stamp) stamp) stamp line
-    (line_stamp-within task.reader state.last (is_first state) line)
+    let stamp = stamp_after task state line in
+    decision_by-within task.action state.last state.latest (state_by task state line (line_kind line stamp) stamp) stamp line
+    (line_stamp-within (reader_by task.anew state.choice.own task.reader) state.last (is_first state) line)
 
 within_is : (decision : Decision) (start : ℕ) (text : List ℕ) (count : ℕ) (line : List ℕ) → Keep start text count ≡ decision
     → Within decision line → start + count ≤ length line
@@ -290,24 +301,24 @@ kept_within task state line text start count e =
 
 -- the decision on a line, by its stamp and the state after it
 pub decision_of-read : (task : Task) (state after : State) (line : List ℕ) (stamp : Result LineStamp LineRefusal)
-    → stamp ≡ line_stamp task.reader state.last (is_first state) line → after ≡ state_after task state line
-    → decision_by task.action state after stamp ≡ decision_of task state line
+    → stamp ≡ stamp_after task state line → after ≡ state_after task state line
+    → decision_by task.action state.last state.latest after stamp ≡ decision_of task state line
 unfolding decision_of state_after
 decision_of-read task state after line stamp e h = rw (h, e) refl
 
 -- ---- more bytes behind those that decide change nothing
 
-stamp_of-longer : (text part : List ℕ) → 1024 ≤ length text → stamp_of (text ++ part) ≡ stamp_of text
+stamp_of-longer : (text part : List ℕ) → 65533 ≤ length text → stamp_of (text ++ part) ≡ stamp_of text
 unfolding stamp_of
 stamp_of-longer text part long =
-    ap (λ (z : List ℕ). front_stamp z (front_at z)) (take-append-le 1024 text part long)
+    ap (λ (z : List ℕ). front_stamp z (front_at z)) (take-append-le 65533 text part long)
 
-behind-longer : (reader : Reader) (last : Option ℤ) (before : ℕ) (text part : List ℕ) → 1024 ≤ length text
+behind-longer : (reader : Reader) (last : Option ℤ) (before : ℕ) (text part : List ℕ) → 65533 ≤ length text
     → stamp_behind reader last before (text ++ part) ≡ stamp_behind reader last before text
 behind-longer Plain last before text part long = ap (plain_at before) (stamp_of-longer text part long)
 behind-longer (Formed by) last before text part long =
     formed_at-longer before by.place text part (form_stamp by last (text ++ part)) long
-    ∙ ap (formed_at before by.place text) (stamp_at-longer by.form by.place by.text (assumed_after by.assumed last) text part long)
+    ∙ ap (formed_at before by.place text) (assumed_stamp-longer by.zone by (assumed_after by.assumed last) text part long)
 
 -- the stamp is the same
 line_stamp-longer : (reader : Reader) (last : Option ℤ) (is_first : Bool) (line part : List ℕ) → longest_head ≤ length line
@@ -316,7 +327,7 @@ line_stamp-longer reader last is_first line part long =
     let before = mark_length (has_mark is_first line) in
     let short = mark_length-short (has_mark is_first line) in
     let text = drop before line in
-    let most : 1024 ≤ length text = omega (arith, long, short, length-drop before line) in
+    let most : 65533 ≤ length text = omega (arith, long, short, length-drop before line) in
     ap (λ (z : Bool). stamp_behind reader last (mark_length z) (drop (mark_length z) (line ++ part)))
     (has_mark-longer is_first line part (omega (arith, long)))
     ∙ ap (stamp_behind reader last before) (drop-append-le before line part (omega (arith, long, short)))
@@ -325,28 +336,52 @@ line_stamp-longer reader last is_first line part long =
 -- and so is its kind
 line_kind-longer : (line part : List ℕ) (stamp : Result LineStamp LineRefusal) → longest_head ≤ length line
     → line_kind (line ++ part) stamp ≡ line_kind line stamp
-line_kind-longer [] part stamp long = absurd (omega (arith, long))
-line_kind-longer (byte ∷ []) part stamp long = absurd (omega (arith, long))
-line_kind-longer (byte ∷ next ∷ line) part stamp long = refl
+line_kind-longer line part stamp long = kind_of-longer line part (is_ok stamp) long
+
+-- the choice is the same
+choice_after-longer : (anew : Option Anew) (choice : Choice) (number : ℕ) (kind : LineKind) (line part : List ℕ) → longest_head ≤ length line
+    → choice_after anew choice number kind (line ++ part) ≡ choice_after anew choice number kind line
+choice_after-longer anew choice number Stamped line part long = refl
+choice_after-longer anew choice number Continued line part long = refl
+choice_after-longer anew choice number Empty line part long = refl
+choice_after-longer None choice number Bare line part long = refl
+choice_after-longer (Some anew) choice number Bare line part long =
+    let next = with_one_more choice in
+    ap (λ (front : List ℕ). if nat_le next.wait next.row then tried anew next number front else next)
+    (take-append-le 1024 line part (omega (arith, long)))
+choice_after-longer None choice number Long line part long = refl
+choice_after-longer (Some anew) choice number Long line part long =
+    let next = with_one_more choice in
+    ap (λ (front : List ℕ). if nat_le next.wait next.row then tried anew next number front else next)
+    (take-append-le 1024 line part (omega (arith, long)))
+
+-- and so is the state
+state_by-longer : (task : Task) (state : State) (line part : List ℕ) → longest_head ≤ length line
+    → let longer = stamp_after task state (line ++ part) in
+    let stamp = stamp_after task state line in
+    state_by task state (line ++ part) (line_kind (line ++ part) longer) longer ≡ state_by task state line (line_kind line stamp) stamp
+state_by-longer task state line part long =
+    let stamp = stamp_after task state line in
+    ap (λ (s : Result LineStamp LineRefusal). state_by task state (line ++ part) (line_kind (line ++ part) s) s)
+    (line_stamp-longer (reader_by task.anew state.choice.own task.reader) state.last (is_first state) line part long)
+    ∙ ap (λ (kind : LineKind). state_by task state (line ++ part) kind stamp) (line_kind-longer line part stamp long)
+    ∙ ap (λ (choice : Choice). record (state_by task state line (line_kind line stamp) stamp) { choice = choice })
+    (choice_after-longer task.anew state.choice (one_more state.lines) (line_kind line stamp) line part long)
 
 pub decision_of-longer : (task : Task) (state : State) (line part : List ℕ) → longest_head ≤ length line
     → decision_of task state (line ++ part) ≡ decision_of task state line
 unfolding decision_of
 decision_of-longer task state line part long =
-    let stamp = line_stamp task.reader state.last (is_first state) line in
-    ap (λ (s : Result LineStamp LineRefusal). decision_by task.action state (state_by task.action state (line_kind (line ++ part) s) s) s)
-    (line_stamp-longer task.reader state.last (is_first state) line part long)
-    ∙ ap (λ (kind : LineKind). decision_by task.action state (state_by task.action state kind stamp) stamp)
-    (line_kind-longer line part stamp long)
+    let longer = stamp_after task state (line ++ part) in
+    let stamp = stamp_after task state line in
+    ap (λ (after : State). decision_by task.action state.last state.latest after longer) (state_by-longer task state line part long)
+    ∙ ap (λ (s : Result LineStamp LineRefusal). decision_by task.action state.last state.latest (state_by task state line (line_kind line stamp) stamp) s)
+    (line_stamp-longer (reader_by task.anew state.choice.own task.reader) state.last (is_first state) line part long)
 
 pub state_after-longer : (task : Task) (state : State) (line part : List ℕ) → longest_head ≤ length line
     → state_after task state (line ++ part) ≡ state_after task state line
 unfolding state_after
-state_after-longer task state line part long =
-    let stamp = line_stamp task.reader state.last (is_first state) line in
-    ap (λ (s : Result LineStamp LineRefusal). state_by task.action state (line_kind (line ++ part) s) s)
-    (line_stamp-longer task.reader state.last (is_first state) line part long)
-    ∙ ap (λ (kind : LineKind). state_by task.action state kind stamp) (line_kind-longer line part stamp long)
+state_after-longer task state line part long = state_by-longer task state line part long
 
 output_of-more : (decision : Decision) (line part : List ℕ) → Within decision line
     → output_of decision (line ++ part) ≡ output_of decision line ++ to_send (progress_of decision) part

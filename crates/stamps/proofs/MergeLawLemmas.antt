@@ -1,5 +1,5 @@
 -- The new front of a line in a merge of one style, read again.
-use Rattle.std.proofs.Common.{◌≡◌, refl, ap, subst, ◌∙◌, ℕ, ◌+◌, zero, suc, Bool, true, false, not, List, [], ◌∷◌, ◌++◌, drop, length}
+use Rattle.std.proofs.Common.{◌≡◌, refl, ap, subst, ◌∙◌, ℕ, ◌+◌, Bool, true, false, not, List, [], ◌∷◌, ◌++◌, drop, length}
 use Rattle.std.proofs.Common.{append_assoc, ℤ, Option, Some, None, Ok, arith}
 use Rattle.std.proofs.lemmas.Bool.{and_parts}
 use Rattle.std.specs.Prelude.{◌==◌}
@@ -8,15 +8,18 @@ use Rattle.offset_times.specs.InstantLemmas.{instant_of-utc}
 use Rattle.offset_times.specs.Local.{instant_of, local_in_utc}
 use Rattle.rfc3339.specs.Texts.{HasFixedText, fixed_text, parts_of}
 use Rattle.rfc3339.specs.ValueLemmas.{IsDateTime-fixed, length-fixed_text, meaning-fixed}
+use Rattle.rfc3339.specs.UnixTexts.{unix_text}
+use Rattle.stamps.specs.Laws.{line_written}
 use Rattle.stamps.specs.FrontLines.{is_replaced, lead_by, lead_of, with_blank}
 use Rattle.stamps.specs.LineStamps.{stamp, stamp_of}
 use Rattle.stamps.specs.Styles.{text_in}
 use Rattle.stamps.specs.declared.decide.Stamp.{Stamp}
 use Rattle.stamps.specs.declared.fronted.Lead.{Lead}
 use Rattle.stamps.specs.declared.readers.LineStamp.{LineStamp}
-use Rattle.stamps.specs.declared.task.Style.TheVariants.{Utc}
+use Rattle.stamps.specs.declared.readers.Reader.TheVariants.{Plain}
+use Rattle.stamps.specs.declared.task.Style.TheVariants.{Utc, Unix}
 use Rattle.stamps.proofs.StampLawLemmas.{stamp_again}
-use Rattle.stamps.proofs.UtcLawLemmas.{fixed_of}
+use Rattle.stamps.proofs.UtcLawLemmas.{fixed_of, written_as}
 
 -- a line with a new front has a stamp of the same instant
 abbrev IsRead : List ℕ → LineStamp → Lead → Type 0
@@ -45,7 +48,7 @@ ends_of mark line stamp e =
 
 read_in_place : (line : List ℕ) (stamp : LineStamp) (text : List ℕ) → text_in Utc stamp.instant ≡ Some text
     → runs_on false (drop (stamp.start + stamp.length) line) ≡ false
-    → IsRead line stamp (record { text = text; count = stamp.start + stamp.length })
+    → IsRead line stamp (record { start = 0; text = text; count = stamp.start + stamp.length })
 read_in_place line stamp text e ends =
     let n = stamp.start + stamp.length in
     let fixed = fixed_of stamp.instant text e in
@@ -53,7 +56,7 @@ read_in_place line stamp text e ends =
     (found.0, ap (λ (z : List ℕ). stamp_of (z ++ drop n line)) fixed.1 ∙ found.1, found.2)
 
 read_before_blank : (mark : ℕ) (line : List ℕ) (stamp : LineStamp) (text : List ℕ) → text_in Utc stamp.instant ≡ Some text
-    → IsRead line stamp (record { text = with_blank text; count = mark })
+    → IsRead line stamp (record { start = 0; text = with_blank text; count = mark })
 read_before_blank mark line stamp text e =
     let rest = drop mark line in
     let fixed = fixed_of stamp.instant text e in
@@ -78,3 +81,22 @@ read_by false mark line stamp (Some text) lead e f h =
 pub read_again : (mark : ℕ) (line : List ℕ) (stamp : LineStamp) (lead : Lead) → lead_of Utc mark line stamp ≡ Some lead
     → (read : Stamp) × (stamp_of (lead.text ++ drop lead.count line) ≡ Ok read) × (read.instant ≡ stamp.instant)
 read_again mark line stamp lead h = read_by (is_replaced mark line stamp) mark line stamp (text_in Utc stamp.instant) lead refl refl h
+
+-- ---- in Unix seconds
+
+text_in-unix : (i : ℤ) → text_in Unix i ≡ Some (unix_text i)
+unfolding text_in
+text_in-unix i = refl
+
+pub written_in_unix : (mark : ℕ) (line : List ℕ) (stamp : LineStamp) (lead : Lead) → lead_of Utc mark line stamp ≡ Some lead
+    → let front = lead.text ++ drop lead.count line in
+    (read : Stamp) × (stamp_of front ≡ Ok read)
+    × (line_written Plain Unix false front ≡ unix_text stamp.instant ++ drop read.length front)
+written_in_unix mark line stamp lead h =
+    let front = lead.text ++ drop lead.count line in
+    let found = read_again mark line stamp lead h in (
+      found.0,
+      found.1,
+      written_as Unix front found.0 (unix_text found.0.instant) found.1 (text_in-unix found.0.instant)
+          ∙ ap (λ (i : ℤ). unix_text i ++ drop found.0.length front) found.2,
+    )

@@ -3,7 +3,6 @@ use Rattle.std.proofs.Common.{◌≡◌, ◌≢◌, inl, inr, ℕ, ◌+◌, ◌�
 use Rattle.std.proofs.Common.{◌∷◌, ◌++◌, length, length-append, take, drop, Option, Some, None, Result, Ok}
 use Rattle.std.proofs.Common.{Err}
 use Rattle.std.proofs.Common.{refl, sym, ap, subst, ◌∙◌, arith, append_assoc, append-nil}
-use Rattle.std.specs.Prelude.{IsOk}
 use Rattle.std.specs.Io.KnownBytes.{Appends}
 use Rattle.std.proofs.lemmas.List.{length-take, length-drop, take-append-drop, get_or-take, get_or-drop}
 use Rattle.line_devices.specs.LineLemmas.{none_ended, ended_from-append, rest_from-append, rest_from-line_feed}
@@ -13,15 +12,13 @@ use Rattle.line_devices.specs.WritingLemmas.{Appends-flushed, AppendsBeginning-l
 use Rattle.line_devices.specs.WritingLemmas.{Sends-flushed, Sends-nothing}
 use Rattle.stamps.specs.Decisions.{decision_of, finding_at_end, first_state, state_after}
 use Rattle.stamps.specs.LineStamps.{longest_head}
-use Rattle.stamps.specs.Notes.{note_text}
-use Rattle.stamps.specs.Progress.{Begins, Completes, Decided, Ends, Keeps, KeepsLine, Passes, Settled, Stands, TellsNote, to_send, progress_of}
+use Rattle.stamps.specs.Progress.{Begins, Completes, Decided, Ends, Keeps, KeepsLine, Passes, Settled, Stands, to_send, progress_of}
 use Rattle.stamps.specs.Runs.{Run, run, behind, output_of, line_feed, known_after, known_at_end, known_unless, line_run, last_run, lines_run, input_run}
 use Rattle.stamps.specs.declared.decide.Decision.{Decision}
 use Rattle.stamps.specs.declared.decide.Decision.TheVariants.{Keep, Skip, Stop, Tell}
 use Rattle.stamps.specs.declared.decide.State.{State}
 use Rattle.stamps.specs.declared.finding.Finding.{Finding}
 use Rattle.stamps.specs.declared.lines.LineFault.{LineFault}
-use Rattle.stamps.specs.declared.notes.Note.{Note}
 use Rattle.stamps.specs.declared.lines.LineFault.TheVariants.{Write, Found}
 use Rattle.stamps.specs.declared.lines.Progress.{Progress}
 use Rattle.stamps.specs.declared.lines.Progress.TheVariants.{Kept, Skipped}
@@ -303,7 +300,7 @@ pub completed : (task : Task) (base b c : Option (List ℕ)) (pending : List ℕ
 completed task base b c pending work taken settled written none =
     let all = all_written task base b c pending work taken settled written in
     let end = all.1 ∙ ap (λ (z : Option Finding). known_unless z work.state) none in
-    record { written = all.0; well = subst (λ (z : Result State Finding). IsOk z) (sym end) refl; tally = input_tally task taken work.state end }
+    record { written = all.0; end = end; tally = input_tally task taken work.state end }
 
 -- the end of the input ends the run
 pub found_at_end : (task : Task) (base b c : Option (List ℕ)) (pending : List ℕ) (work : Work) (taken : List ℕ) (found : Finding)
@@ -375,19 +372,6 @@ begins_kept (Ok progress) decision known old new pending pending' line text star
 begins_kept (Err Write) decision known old new pending pending' line text start count e h =
     subst (λ (z : Decision). AppendsBeginning old new (pending ++ output_of z line)) e h
 begins_kept (Err (Found found)) decision known old new pending pending' line text start count e h = absurd h
-
--- a note in place of a line
-pub begins_told : (r : Result Progress LineFault) (decision : Decision) (known : State) (old new : Option (List ℕ)) (pending pending' line : List ℕ)
-    (note : Note) → Tell note ≡ decision → TellsNote r old new pending' (pending ++ note_text note)
-    → Begins r decision known old new pending pending' line
-begins_told (Ok progress) decision known old new pending pending' line note e h = (
-  subst (λ (z : Decision). Sends old new pending' (pending ++ output_of z line)) e h.0,
-  h.1 ∙ ap progress_of e,
-  ap (λ (z : Decision). known_after z known) (sym e),
-)
-begins_told (Err Write) decision known old new pending pending' line note e h =
-    subst (λ (z : Decision). AppendsBeginning old new (pending ++ output_of z line)) e h
-begins_told (Err (Found found)) decision known old new pending pending' line note e h = absurd h
 
 -- a line that does not go on
 pub begins_skipped : (decision : Decision) (known : State) (now : Option (List ℕ)) (pending line : List ℕ) → Skip ≡ decision

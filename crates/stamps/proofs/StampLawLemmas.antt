@@ -50,12 +50,12 @@ pub form_again : (spelled rest : List ℕ) (p : Parts) → IsDateTime spelled p 
 unfolding stamp_of
 form_again spelled rest p form short =
     let n = length spelled in
-    let behind = take (1024 - n) rest in
-    let whole : 1024 ≡ n + (1024 - n) = omega (arith, short) in
-    let front : take 1024 (spelled ++ rest) ≡ spelled ++ behind = ap (λ (z : ℕ). take z (spelled ++ rest)) whole ∙ take-append-add spelled rest (1024 - n) in
+    let behind = take (65533 - n) rest in
+    let whole : 65533 ≡ n + (65533 - n) = omega (arith, short) in
+    let front : take 65533 (spelled ++ rest) ≡ spelled ++ behind = ap (λ (z : ℕ). take z (spelled ++ rest)) whole ∙ take-append-add spelled rest (65533 - n) in
     let count : length (spelled ++ behind) - length behind ≡ n = omega (arith, length-append spelled behind) in
     rw (front, front_again spelled p behind form, count, drop-append_seam spelled behind)
-    (ended_stamp-take (meaning p) n (1024 - n) rest (omega (arith, short)))
+    (ended_stamp-take (meaning p) n (65533 - n) rest (omega (arith, short)))
 
 ended_at : (m : Result Local TextRefusal) (n : ℕ) (rest : List ℕ) → n ≤ longest_stamp → runs_on false rest ≡ false
     → ended_stamp m n rest ≡ result_map_both (λ at. stamp (instant_of at) n rest) (λ refusal. refusal) m
@@ -115,21 +115,21 @@ no_refusal true refusal s h = cc
 no_refusal false refusal s h = cc
 
 -- nothing follows a front that has at most one byte behind a stamp
-no_more : (text spelled rest : List ℕ) → take 1024 text ≡ spelled ++ rest → length spelled ≤ longest_stamp → length rest ≤ 1 → drop 1024 text ≡ []
+no_more : (text spelled rest : List ℕ) → take 65533 text ≡ spelled ++ rest → length spelled ≤ longest_stamp → length rest ≤ 1 → drop 65533 text ≡ []
 no_more text spelled rest e short one =
-    drop_all 1024 text (omega (arith, ap (length {A = ℕ}) e, length-append spelled rest, length-take 1024 text, short, one))
+    drop_all 65533 text (omega (arith, ap (length {A = ℕ}) e, length-append spelled rest, length-take 65533 text, short, one))
 
 -- a front was read, of which this is the rest
-sound_at : (text rest : List ℕ) (s : Stamp) (p : Parts) (m : Result Local TextRefusal) → front_at (take 1024 text) ≡ Some (p, rest) → meaning p ≡ m
-    → (let count = length (take 1024 text) - length rest in ended_stamp m count (drop count (take 1024 text))) ≡ Ok s → HasStamp text s
+sound_at : (text rest : List ℕ) (s : Stamp) (p : Parts) (m : Result Local TextRefusal) → front_at (take 65533 text) ≡ Some (p, rest) → meaning p ≡ m
+    → (let count = length (take 65533 text) - length rest in ended_stamp m count (drop count (take 65533 text))) ≡ Ok s → HasStamp text s
 sound_at text rest s p (Err refusal) e f h =
-    let count = length (take 1024 text) - length rest in
-    absurd (no_refusal (ends count (drop count (take 1024 text))) refusal s h)
+    let count = length (take 65533 text) - length rest in
+    absurd (no_refusal (ends count (drop count (take 65533 text))) refusal s h)
 sound_at text rest s p (Ok at) e f h =
-    let front = take 1024 text in
+    let front = take 65533 text in
     let took = front_takes front p rest e in
     let spelled = took.0 in
-    let more = drop 1024 text in
+    let more = drop 65533 text in
     let n = length front - length rest in
     let behind = drop n front in
     let count : n ≡ length spelled = omega (arith, ap (length {A = ℕ}) took.1.parts, length-append spelled rest) in
@@ -142,7 +142,7 @@ sound_at text rest s p (Ok at) e f h =
       spelled = spelled;
       rest = rest ++ more;
       parts = p;
-      split = sym (take-append-drop 1024 text) ∙ ap (λ (z : List ℕ). z ++ more) took.1.parts ∙ append_assoc spelled rest more;
+      split = sym (take-append-drop 65533 text) ∙ ap (λ (z : List ℕ). z ++ more) took.1.parts ∙ append_assoc spelled rest more;
       form = took.1.is;
       ranges = ranges.0;
       short = short;
@@ -152,11 +152,11 @@ sound_at text rest s p (Ok at) e f h =
       zone = ap (λ (z : Stamp). z.is_zoned) (sym known.is) ∙ (ap opens_bracket is ∙ sym (opens_bracket-more rest more none));
     }
 
-sound_in : (text : List ℕ) (s : Stamp) (o : Option (Parts × List ℕ)) → front_at (take 1024 text) ≡ o
-    → front_stamp (take 1024 text) o ≡ Ok s → HasStamp text s
+sound_in : (text : List ℕ) (s : Stamp) (o : Option (Parts × List ℕ)) → front_at (take 65533 text) ≡ o
+    → front_stamp (take 65533 text) o ≡ Ok s → HasStamp text s
 sound_in text s None e h = absurd cc
 sound_in text s (Some read) e h = sound_at text read.1 s read.0 (meaning read.0) e refl h
 
 pub sound : (text : List ℕ) (s : Stamp) → stamp_of text ≡ Ok s → HasStamp text s
 unfolding stamp_of
-sound text s e = sound_in text s (front_at (take 1024 text)) refl e
+sound text s e = sound_in text s (front_at (take 65533 text)) refl e

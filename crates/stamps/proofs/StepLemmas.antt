@@ -78,10 +78,10 @@ pass_ends task b c pending pending' work part (Err fault) none h =
 -- ---- a line that is as long as a stamp may be
 
 -- a table that is filled by the front of a part
-pub front_filled : (head part : List ℕ) (room : ℕ) → length head + room ≡ 1027 → take 1027 (head ++ part) ≡ head ++ take room part
+pub front_filled : (head part : List ℕ) (room : ℕ) → length head + room ≡ 65536 → take 65536 (head ++ part) ≡ head ++ take room part
 front_filled head part room e = rw (← e) (take-append-add head part room)
 
-pub long_enough : (head part : List ℕ) (room : ℕ) → length head + room ≡ 1027 → room ≤ length part → longest_head ≤ length (head ++ take room part)
+pub long_enough : (head part : List ℕ) (room : ℕ) → length head + room ≡ 65536 → room ≤ length part → longest_head ≤ length (head ++ take room part)
 long_enough head part room e low = omega (arith, e, low, length-append head (take room part), length-take room part)
 
 -- what is kept and the front of a part are a line that is long enough

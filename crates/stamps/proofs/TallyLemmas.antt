@@ -1,22 +1,19 @@
 -- The tally at the end of a run is that of its input.
-use Rattle.std.proofs.Common.{◌≡◌, refl, sym, ap, ap₂, ◌∙◌, ℕ, ◌+◌, Bool, false, true, List, [], ◌∷◌, ◌++◌, length, length-append, Option, Some, None}
+use Rattle.std.proofs.Common.{◌≡◌, refl, sym, ap, ap₂, ◌∙◌, ℕ, ◌+◌, List, [], ◌∷◌, ◌++◌, length, length-append, Option, Some, None}
 use Rattle.std.proofs.Common.{Result, Ok, Err, arith, append_assoc, append-nil}
 use Rattle.line_devices.specs.Lines.{pieces_of, unless_empty, whole_lines_of}
 use Rattle.line_devices.specs.StampTallies.{as_count, tally_after, tally_of_kinds}
 use Rattle.line_devices.specs.StampTallyLemmas.{tally_of_kinds-nil, tally_of_kinds-push}
 use Rattle.line_devices.specs.declared.stamp_tallies.LineKind.{LineKind}
 use Rattle.line_devices.specs.declared.stamp_tallies.StampTally.{StampTally}
-use Rattle.stamps.specs.Decisions.{decision_of, finding_at_end, first_state, is_first, line_kind, one_more, state_after}
-use Rattle.stamps.specs.Laws.{line_stamps}
-use Rattle.stamps.specs.Readers.{line_stamp}
+use Rattle.stamps.specs.Decisions.{decision_of, finding_at_end, first_state, line_kind, one_more, stamp_after, state_after}
 use Rattle.stamps.specs.Runs.{Run, input_run, known_after, known_at_end, known_unless, last_of, last_run, line_run, then_on}
-use Rattle.stamps.specs.Tallies.{kinds_of, tally_of}
+use Rattle.stamps.specs.Tallies.{kinds_of, stamps_from, tally_of}
 use Rattle.stamps.specs.declared.decide.Decision.{Decision}
 use Rattle.stamps.specs.declared.decide.Decision.TheVariants.{Keep, Skip, Stop, Tell}
 use Rattle.stamps.specs.declared.decide.State.{State}
 use Rattle.stamps.specs.declared.finding.Finding.{Finding}
 use Rattle.stamps.specs.declared.task.Task.{Task}
-use Rattle.stamps.proofs.LineLawLemmas.{later}
 use Rattle.stamps.proofs.RunLemmas.{all_run, input_run-all, lines_of-last}
 
 -- the state knows lines of these kinds
@@ -25,7 +22,7 @@ Tallied s kinds = (s.lines ≡ as_count (length kinds)) × (s.tally ≡ tally_of
 
 -- the kind of the next line
 abbrev next_kind : Task → State → List ℕ → LineKind
-next_kind task s line = line_kind line (line_stamp task.reader s.last (is_first s) line)
+next_kind task s line = line_kind line (stamp_after task s line)
 
 tallied_more : (task : Task) (s : State) (kinds : List LineKind) (line : List ℕ) → Tallied s kinds
     → Tallied (state_after task s line) (kinds ++ next_kind task s line ∷ [])
@@ -63,8 +60,8 @@ then_is text (Stop found) state final next e = absurd cc
 tally_all : (task : Task) (s final : State) (kinds : List LineKind) (lines : List (List ℕ)) (piece : List ℕ) → Tallied s kinds
     → (all_run task s lines piece).end ≡ Ok final
     → let rest = lines ++ unless_empty piece in
-    final.tally ≡ tally_of_kinds (kinds ++ kinds_of rest (line_stamps task.reader s.last (is_first s) rest))
-unfolding last_run line_run line_stamps state_after
+    final.tally ≡ tally_of_kinds (kinds ++ kinds_of rest (stamps_from task s rest))
+unfolding last_run line_run stamps_from
 tally_all task s final kinds [] [] h e =
     let same = unless_is (finding_at_end task s) s final e in
     ap (λ (z : State). z.tally) (sym same) ∙ h.1 ∙ ap tally_of_kinds (sym (append-nil kinds))
@@ -78,13 +75,12 @@ tally_all task s final kinds (line ∷ lines) piece h e =
     let rest = lines ++ unless_empty piece in
     let more = then_is _ (decision_of task s line) after final (λ next. all_run task next lines piece) e in
     let all = tally_all task after final (kinds ++ kind ∷ []) lines piece (tallied_more task s kinds line h) more in
-    all ∙ ap (λ (z : Bool). tally_of_kinds ((kinds ++ kind ∷ []) ++ kinds_of rest (line_stamps task.reader after.last z rest))) (later task s line)
-    ∙ ap tally_of_kinds (append_assoc kinds (kind ∷ []) (kinds_of rest (line_stamps task.reader after.last false rest)))
+    all ∙ ap tally_of_kinds (append_assoc kinds (kind ∷ []) (kinds_of rest (stamps_from task after rest)))
 
 -- the run of an input that ends well has its tally
-pub input_tally : (task : Task) (input : List ℕ) (final : State) → (input_run task input).end ≡ Ok final → final.tally ≡ tally_of task.reader input
+pub input_tally : (task : Task) (input : List ℕ) (final : State) → (input_run task input).end ≡ Ok final → final.tally ≡ tally_of task input
 unfolding tally_of
 input_tally task input final e =
     let end = sym (ap (λ (z : Run). z.end) (input_run-all task input)) ∙ e in
     tally_all task (first_state task) final [] (whole_lines_of input) (last_of (pieces_of input)) (refl, sym tally_of_kinds-nil) end
-    ∙ ap (λ (z : List (List ℕ)). tally_of_kinds (kinds_of z (line_stamps task.reader None true z))) (sym (lines_of-last input))
+    ∙ ap (λ (z : List (List ℕ)). tally_of_kinds (kinds_of z (stamps_from task (first_state task) z))) (sym (lines_of-last input))

@@ -74,7 +74,7 @@ pub input_ends : (task : Task) (first old now : Devices) (pending : List ℕ) (w
 input_ends task first old now pending work after taken h none end completes r w = record {
   none_left = input-none_left first.left old.left now.left taken h.consumed none end;
   written = input-end first.left old.left now.left taken _ h.consumed none end completes.written;
-  well = input-end first.left old.left now.left taken _ h.consumed none end completes.well;
+  end = input-end first.left old.left now.left taken _ h.consumed none end completes.end;
   tally = input-end first.left old.left now.left taken _ h.consumed none end completes.tally;
   no_read_failed = r ∙ h.no_read_failed;
   no_write_failed = w ∙ h.no_write_failed;

@@ -1,37 +1,48 @@
 -- Words make a request, or are a misuse, exactly where the usage has it so.
 use Rattle.std.proofs.Common.{◌≡◌, refl, ap, subst, ◌∙◌, ℕ, ℤ, pos, Bool, true, false, ◌||◌, List, [], ◌∷◌, drop, Option, Some, None, Result, Ok, Err}
-use Rattle.std.specs.List.{list_any}
-use Rattle.std.specs.Prelude.{codes, if◌then◌else◌}
+use Rattle.std.specs.List.{list_any, starts_with}
+use Rattle.std.specs.Prelude.{codes, if◌then◌else◌, length, nat_eq, nat_lt}
 use Rattle.std.specs.Result.{result_map_both}
 use Rattle.std.specs.Str.{bytes_eq}
 use Rattle.std.proofs.lemmas.Slice.Eq.{bytes_eq-Decides}
 use Rattle.offset_times.specs.Local.{instant_of}
 use Rattle.rfc3339.specs.Front.{offset_reading_of}
 use Rattle.rfc3339.specs.Reading.{reading_as}
+use Rattle.rfc3339.specs.declared.refusal.Component.{Component}
 use Rattle.rfc3339.specs.declared.refusal.TextRefusal.{TextRefusal}
-use Rattle.stamps.specs.Arguments.{only_instant, asked_alone, at_offset as offset_words, at_offset_read, bound_of, bound_read, bound_task as bounded_words}
+use Rattle.rfc3339.specs.declared.refusal.TextRefusal.TheVariants.{Syntax, OutOfRange}
+use Rattle.stamps.specs.Arguments.{asked_alone, at_offset as offset_words, at_offset_read, between_cut, between_from, between_read, bound_asked}
+use Rattle.stamps.specs.Arguments.{back_read, bound_read, cut_asked, last_bound, local_read, local_text, only_bound, only_read, other_bound}
+use Rattle.stamps.specs.Arguments.{since_cut as since_words, since_read, since_rest, work_request}
 use Rattle.stamps.specs.Arguments.{check_task, clock, count_at, count_at_read, count_by, count_read, count_request, gaps_read, gaps_task, is_finer, limit_of}
 use Rattle.stamps.specs.Arguments.{request_of, starts_all, starts_at, strictness, task_asked, unit_of}
 use Rattle.stamps.specs.Durations.{duration_of}
-use Rattle.stamps.specs.Usage.{BoundWord, ClockWords, CountWords, FrontWords, IsBound, MisuseWords, RequestWords, StrictWords, first_words}
-use Rattle.stamps.specs.Usage.BoundWord.{since, until}
+use Rattle.stamps.specs.Usage.{BeforeBound, BoundWords, ClockWords, CountWords, FirstBoundWords, FrontWords, IsBound, MisuseWords, RequestWords, StrictWords}
+use Rattle.stamps.specs.Usage.{first_words}
+use Rattle.stamps.specs.Usage.BeforeBound.{first, last}
+use Rattle.stamps.specs.Usage.BoundWords.{until, between, since_until}
+use Rattle.stamps.specs.Usage.FirstBoundWords.{since_first, between_first}
 use Rattle.stamps.specs.Usage.ClockWords.{in_utc, at_offset}
 use Rattle.stamps.specs.Usage.CountWords.{some_rows, all_rows}
 use Rattle.stamps.specs.Usage.FrontWords.{utc, unix, at, check, check_all, gaps}
 use Rattle.stamps.specs.Usage.MisuseWords.{no_word, unknown_word, no_offset, offset, no_unit, unit, no_count_offset, count_offset}
-use Rattle.stamps.specs.Usage.MisuseWords.{no_duration, duration, no_instant, instant, too_fine, after_help, after_version, after_count}
-use Rattle.stamps.specs.Usage.MisuseWords.{after_merge, after_task, after_bound}
-use Rattle.stamps.specs.Usage.RequestWords.{help, version, merge, count, task, bound_task}
+use Rattle.stamps.specs.Usage.MisuseWords.{no_duration, duration, no_instant, no_bound, after_help, after_version, after_count}
+use Rattle.stamps.specs.Usage.MisuseWords.{after_merge, after_task, after_since, after_bound}
+use Rattle.stamps.specs.Usage.RequestWords.{help, version, merge, count, task, since_cut, bound_cut}
 use Rattle.stamps.specs.Usage.StrictWords.{lenient, strict}
 use Rattle.stamps.specs.declared.arguments.Misuse.{Misuse}
-use Rattle.stamps.specs.declared.arguments.Misuse.TheVariants.{UnknownWord, Extra}
+use Rattle.stamps.specs.declared.arguments.Misuse.TheVariants.{UnknownWord, NoInstant, Instant, TooFine, Extra}
 use Rattle.stamps.specs.declared.arguments.Request.{Request}
-use Rattle.stamps.specs.declared.arguments.Request.TheVariants.{Help, Version, Work, Merge, Count}
+use Rattle.stamps.specs.declared.arguments.Request.TheVariants.{Help, Version, Work, Cut, Merge, Count}
+use Rattle.stamps.specs.declared.bounds.Bound.{Bound}
+use Rattle.stamps.specs.declared.bounds.Bound.TheVariants.{Exact, BeforeNow, BeforeLast}
+use Rattle.stamps.specs.declared.bounds.Cut as cuts
+use Rattle.stamps.specs.declared.bounds.Cut.TheVariants.{Since, Until, Between}
 use Rattle.stamps.specs.declared.counts.Clock.{Clock}
 use Rattle.stamps.specs.declared.counts.Unit as units
 use Rattle.stamps.specs.declared.task.Style.TheVariants.{Utc, At, Unix}
 use Rattle.stamps.specs.declared.task.Action.{Action}
-use Rattle.stamps.specs.declared.task.Action.TheVariants.{Write, Check, CheckAll, Gaps, Since, Until}
+use Rattle.stamps.specs.declared.task.Action.TheVariants.{Write, Check, CheckAll, Gaps}
 
 -- ---- what words ask for
 
@@ -76,30 +87,61 @@ by_at : (words more : List (List ℕ)) → words ≡ codes "at" ∷ more → Out
 by_at words [] front = misused (no_offset front)
 by_at words (text ∷ more) front = by_offset words text more (offset_reading_of text) front refl
 
--- ---- a task with a bound
+-- ---- a cut
 
-by_rest : (words : List (List ℕ)) (word text : List ℕ) (more : List (List ℕ)) (work : ℤ → Action) (bound : ℤ) → BoundWord word work
-    → words ≡ word ∷ text ∷ more → IsBound text bound
-    → Outcome words (result_map_both Work (λ misuse. misuse) (result_map_both work (λ misuse. misuse) (only_instant bound more)))
-by_rest words word text [] work bound h front read = asked (bound_task h front read)
-by_rest words word text (other ∷ more) work bound h front read = misused (after_bound h front read)
+by_rest : (words : List (List ℕ)) (text : List ℕ) (more : List (List ℕ)) (cut : Bound → cuts.Cut) (bound : Bound) → BoundWords words (text ∷ more) cut
+    → IsBound text bound
+    → Outcome words (result_map_both Cut (λ misuse. misuse) (result_map_both cut (λ misuse. misuse) (only_bound bound more)))
+by_rest words text [] cut bound h read = asked (bound_cut h read)
+by_rest words text (other ∷ more) cut bound h read = misused (after_bound h read)
 
-by_fraction : (words : List (List ℕ)) (word text : List ℕ) (more : List (List ℕ)) (work : ℤ → Action) (bound : ℤ) (finer : Bool) → BoundWord word work
-    → words ≡ word ∷ text ∷ more → reading_as instant_of text ≡ Ok bound → is_finer text ≡ finer
-    → Outcome words (result_map_both Work (λ misuse. misuse) (result_map_both work (λ misuse. misuse) (bound_read finer (Ok bound) more)))
-by_fraction words word text more work bound true h front read e = misused (too_fine h front read e)
-by_fraction words word text more work bound false h front read e = by_rest words word text more work bound h front (record { instant = read; not_finer = e })
+by_reading : (words : List (List ℕ)) (text : List ℕ) (more : List (List ℕ)) (cut : Bound → cuts.Cut) (read : Result Bound Misuse)
+    → BoundWords words (text ∷ more) cut → bound_asked text ≡ read
+    → Outcome words (result_map_both Cut (λ misuse. misuse) (result_map_both cut (λ misuse. misuse) (only_read read more)))
+by_reading words text more cut (Ok bound) h e = by_rest words text more cut bound h e
+by_reading words text more cut (Err misuse) h e = misused (no_bound (last h) e)
 
-by_reading : (words : List (List ℕ)) (word text : List ℕ) (more : List (List ℕ)) (work : ℤ → Action) (read : Result ℤ TextRefusal) → BoundWord word work
-    → words ≡ word ∷ text ∷ more → reading_as instant_of text ≡ read
-    → Outcome words (result_map_both Work (λ misuse. misuse) (result_map_both work (λ misuse. misuse) (bound_read (is_finer text) read more)))
-by_reading words word text more work (Ok bound) h front e = by_fraction words word text more work bound (is_finer text) h front e refl
-by_reading words word text more work (Err refusal) h front e = misused (instant h front e)
+by_bound : (words more : List (List ℕ)) (cut : Bound → cuts.Cut) → BoundWords words more cut
+    → Outcome words (result_map_both Cut (λ misuse. misuse) (result_map_both cut (λ misuse. misuse) (last_bound more)))
+by_bound words [] cut h = misused (no_instant (last h))
+by_bound words (text ∷ more) cut h = by_reading words text more cut (bound_asked text) h refl
 
-by_bound : (word : List ℕ) (more : List (List ℕ)) (work : ℤ → Action) → BoundWord word work
-    → Outcome (word ∷ more) (result_map_both Work (λ misuse. misuse) (result_map_both work (λ misuse. misuse) (bound_of more)))
-by_bound word [] work h = misused (no_instant h refl)
-by_bound word (text ∷ more) work h = by_reading (word ∷ text ∷ more) word text more work (reading_as instant_of text) h refl refl
+-- ---- `between`
+
+between_by_reading : (words : List (List ℕ)) (text : List ℕ) (more : List (List ℕ)) (read : Result Bound Misuse)
+    → words ≡ codes "between" ∷ text ∷ more → bound_asked text ≡ read
+    → Outcome words (result_map_both Cut (λ misuse. misuse) (between_read read more))
+between_by_reading words text more (Ok from) e read = by_bound words more (Between from) (between e read)
+between_by_reading words text more (Err misuse) e read = misused (no_bound (first (between_first e)) read)
+
+by_between : (words more : List (List ℕ)) → words ≡ codes "between" ∷ more → Outcome words (result_map_both Cut (λ misuse. misuse) (between_cut more))
+by_between words [] e = misused (no_instant (first (between_first e)))
+by_between words (text ∷ more) e = between_by_reading words text more (bound_asked text) e refl
+
+-- ---- `since`
+
+since_by_until : (words : List (List ℕ)) (text other : List ℕ) (more : List (List ℕ)) (from : Bound) (b : Bool)
+    → words ≡ codes "since" ∷ text ∷ other ∷ more → IsBound text from → bytes_eq other (codes "--until") ≡ b
+    → Outcome words (result_map_both Cut (λ misuse. misuse) (if b then between_from from more else Err Extra))
+since_by_until words text other more from true e read same =
+    by_bound words more (Between from)
+    (since_until (e ∙ ap (λ (z : List ℕ). codes "since" ∷ text ∷ z ∷ more) (same_word other (codes "--until") same)) read)
+since_by_until words text other more from false e read same = misused (after_since e read same)
+
+since_by_rest : (words : List (List ℕ)) (text : List ℕ) (more : List (List ℕ)) (from : Bound) → words ≡ codes "since" ∷ text ∷ more
+    → IsBound text from → Outcome words (result_map_both Cut (λ misuse. misuse) (since_rest from more))
+since_by_rest words text [] from e read = asked (since_cut e read)
+since_by_rest words text (other ∷ more) from e read = since_by_until words text other more from (bytes_eq other (codes "--until")) e read refl
+
+since_by_reading : (words : List (List ℕ)) (text : List ℕ) (more : List (List ℕ)) (read : Result Bound Misuse)
+    → words ≡ codes "since" ∷ text ∷ more → bound_asked text ≡ read
+    → Outcome words (result_map_both Cut (λ misuse. misuse) (since_read read more))
+since_by_reading words text more (Ok from) e read = since_by_rest words text more from e read
+since_by_reading words text more (Err misuse) e read = misused (no_bound (first (since_first e)) read)
+
+by_since : (words more : List (List ℕ)) → words ≡ codes "since" ∷ more → Outcome words (result_map_both Cut (λ misuse. misuse) (since_words more))
+by_since words [] e = misused (no_instant (first (since_first e)))
+by_since words (text ∷ more) e = since_by_reading words text more (bound_asked text) e refl
 
 -- ---- the first word
 
@@ -124,25 +166,37 @@ record IsOther (word : List ℕ) : Type 0 where
   gaps : bytes_eq word (codes "gaps") ≡ false
 
 unknown : (word : List ℕ) → IsOther word → bytes_eq word (codes "since") ≡ false → bytes_eq word (codes "until") ≡ false
-    → list_any (bytes_eq word) first_words ≡ false
-unknown word h s u = rw (h.help, h.version, h.merge, h.count, h.utc, h.unix, h.at, h.check, h.gaps, s, u) refl
+    → bytes_eq word (codes "between") ≡ false → list_any (bytes_eq word) first_words ≡ false
+unknown word h s u b = rw (h.help, h.version, h.merge, h.count, h.utc, h.unix, h.at, h.check, h.gaps, s, u, b) refl
 
-after_since : (word : List ℕ) (more : List (List ℕ)) (b : Bool) → IsOther word → bytes_eq word (codes "since") ≡ false → bytes_eq word (codes "until") ≡ b
-    → Outcome (word ∷ more) (result_map_both Work (λ misuse. misuse)
-    (if b then result_map_both Until (λ misuse. misuse) (bound_of more) else Err UnknownWord))
-after_since word more true h s e = by_bound word more Until (until (same_word word (codes "until") e))
-after_since word more false h s e = misused (unknown_word refl (unknown word h s e))
+after_until : (word : List ℕ) (more : List (List ℕ)) (b : Bool) → IsOther word → bytes_eq word (codes "since") ≡ false
+    → bytes_eq word (codes "until") ≡ false → bytes_eq word (codes "between") ≡ b
+    → Outcome (word ∷ more) (result_map_both Cut (λ misuse. misuse) (if b then between_cut more else Err UnknownWord))
+after_until word more true h s u e = by_between (word ∷ more) more (same_first word (codes "between") more e)
+after_until word more false h s u e = misused (unknown_word refl (unknown word h s u e))
+
+after_first : (word : List ℕ) (more : List (List ℕ)) (b : Bool) → IsOther word → bytes_eq word (codes "since") ≡ false → bytes_eq word (codes "until") ≡ b
+    → Outcome (word ∷ more) (result_map_both Cut (λ misuse. misuse)
+    (if b then result_map_both Until (λ misuse. misuse) (last_bound more)
+    else (if bytes_eq word (codes "between") then between_cut more else Err UnknownWord)))
+after_first word more true h s e = by_bound (word ∷ more) more Until (until (same_first word (codes "until") more e))
+after_first word more false h s e = after_until word more (bytes_eq word (codes "between")) h s e refl
 
 by_bounded : (word : List ℕ) (more : List (List ℕ)) (b : Bool) → IsOther word → bytes_eq word (codes "since") ≡ b
-    → Outcome (word ∷ more) (result_map_both Work (λ misuse. misuse)
-    (if b then result_map_both Since (λ misuse. misuse) (bound_of more)
-    else (if bytes_eq word (codes "until") then result_map_both Until (λ misuse. misuse) (bound_of more) else Err UnknownWord)))
-by_bounded word more true h e = by_bound word more Since (since (same_word word (codes "since") e))
-by_bounded word more false h e = after_since word more (bytes_eq word (codes "until")) h e refl
+    → Outcome (word ∷ more) (result_map_both Cut (λ misuse. misuse)
+    (if b then since_words more
+    else (if bytes_eq word (codes "until") then result_map_both Until (λ misuse. misuse) (last_bound more)
+    else (if bytes_eq word (codes "between") then between_cut more else Err UnknownWord))))
+by_bounded word more true h e = by_since (word ∷ more) more (same_first word (codes "since") more e)
+by_bounded word more false h e = after_first word more (bytes_eq word (codes "until")) h e refl
+
+-- the request of a cut
+abbrev cut_words : List ℕ → List (List ℕ) → Result Request Misuse
+cut_words word more = result_map_both Cut (λ misuse. misuse) (cut_asked word more)
 
 by_words : (word : List ℕ) (more : List (List ℕ)) → IsOther word
-    → Outcome (word ∷ more) (result_map_both Work (λ misuse. misuse) (bounded_words word more))
-unfolding bounded_words
+    → Outcome (word ∷ more) (result_map_both Cut (λ misuse. misuse) (cut_asked word more))
+unfolding cut_asked
 by_words word more h = by_bounded word more (bytes_eq word (codes "since")) h refl
 
 by_check_all : (words more : List (List ℕ)) (all : Bool) → words ≡ codes "check" ∷ more → starts_all more ≡ all
@@ -166,7 +220,7 @@ by_gaps_word : (word : List ℕ) (more : List (List ℕ)) (b : Bool) → bytes_e
     → bytes_eq word (codes "--version") ≡ false → bytes_eq word (codes "merge") ≡ false → bytes_eq word (codes "count") ≡ false
     → bytes_eq word (codes "utc") ≡ false → bytes_eq word (codes "unix") ≡ false → bytes_eq word (codes "at") ≡ false
     → bytes_eq word (codes "check") ≡ false → bytes_eq word (codes "gaps") ≡ b
-    → Outcome (word ∷ more) (result_map_both Work (λ misuse. misuse) (if b then gaps_task more else bounded_words word more))
+    → Outcome (word ∷ more) (if b then work_request (gaps_task more) else cut_words word more)
 by_gaps_word word more true no_help no_version no_merge no_count no_utc no_unix no_at no_check e =
     by_gaps (word ∷ more) more (same_first word (codes "gaps") more e)
 by_gaps_word word more false no_help no_version no_merge no_count no_utc no_unix no_at no_check e = by_words word more (record {
@@ -185,8 +239,8 @@ by_check : (word : List ℕ) (more : List (List ℕ)) (b : Bool) → bytes_eq wo
     → bytes_eq word (codes "--version") ≡ false → bytes_eq word (codes "merge") ≡ false → bytes_eq word (codes "count") ≡ false
     → bytes_eq word (codes "utc") ≡ false → bytes_eq word (codes "unix") ≡ false → bytes_eq word (codes "at") ≡ false
     → bytes_eq word (codes "check") ≡ b
-    → Outcome (word ∷ more) (result_map_both Work (λ misuse. misuse)
-    (if b then check_task more else (if bytes_eq word (codes "gaps") then gaps_task more else bounded_words word more)))
+    → Outcome (word ∷ more) (if b then work_request (check_task more)
+    else (if bytes_eq word (codes "gaps") then work_request (gaps_task more) else cut_words word more))
 by_check word more true no_help no_version no_merge no_count no_utc no_unix no_at e =
     by_check_all (word ∷ more) more (starts_all more) (same_first word (codes "check") more e) refl
 by_check word more false no_help no_version no_merge no_count no_utc no_unix no_at e = by_gaps_word word more (bytes_eq word
@@ -196,10 +250,9 @@ by_at_word : (word : List ℕ) (more : List (List ℕ)) (b : Bool) → bytes_eq 
     → bytes_eq word (codes "--version") ≡ false → bytes_eq word (codes "merge") ≡ false → bytes_eq word (codes "count") ≡ false
     → bytes_eq word (codes "utc") ≡ false
     → bytes_eq word (codes "unix") ≡ false → bytes_eq word (codes "at") ≡ b
-    → Outcome (word ∷ more) (result_map_both Work (λ misuse. misuse)
-    (if b then offset_words more
-    else (if bytes_eq word (codes "check") then check_task more
-    else (if bytes_eq word (codes "gaps") then gaps_task more else bounded_words word more))))
+    → Outcome (word ∷ more) (if b then work_request (offset_words more)
+    else (if bytes_eq word (codes "check") then work_request (check_task more)
+    else (if bytes_eq word (codes "gaps") then work_request (gaps_task more) else cut_words word more)))
 by_at_word word more true no_help no_version no_merge no_count no_utc no_unix e = by_at (word ∷ more) more (same_first word (codes "at") more e)
 by_at_word word more false no_help no_version no_merge no_count no_utc no_unix e = by_check word more (bytes_eq word
     (codes "check")) no_help no_version no_merge no_count no_utc no_unix e refl
@@ -208,11 +261,10 @@ by_unix : (word : List ℕ) (more : List (List ℕ)) (b : Bool) → bytes_eq wor
     → bytes_eq word (codes "--version") ≡ false → bytes_eq word (codes "merge") ≡ false → bytes_eq word (codes "count") ≡ false
     → bytes_eq word (codes "utc") ≡ false
     → bytes_eq word (codes "unix") ≡ b
-    → Outcome (word ∷ more) (result_map_both Work (λ misuse. misuse)
-    (if b then result_map_both (Write Unix) (λ misuse. misuse) (strictness more)
-    else (if bytes_eq word (codes "at") then offset_words more
-    else (if bytes_eq word (codes "check") then check_task more
-    else (if bytes_eq word (codes "gaps") then gaps_task more else bounded_words word more)))))
+    → Outcome (word ∷ more) (if b then work_request (result_map_both (Write Unix) (λ misuse. misuse) (strictness more))
+    else (if bytes_eq word (codes "at") then work_request (offset_words more)
+    else (if bytes_eq word (codes "check") then work_request (check_task more)
+    else (if bytes_eq word (codes "gaps") then work_request (gaps_task more) else cut_words word more))))
 by_unix word more true no_help no_version no_merge no_count no_utc e = by_strictness (word ∷ more) more (Write Unix) (unix (same_first word (codes "unix")
     more e))
 by_unix word more false no_help no_version no_merge no_count no_utc e = by_at_word word more (bytes_eq word (codes "at")) no_help no_version no_merge
@@ -221,18 +273,17 @@ by_unix word more false no_help no_version no_merge no_count no_utc e = by_at_wo
 by_utc : (word : List ℕ) (more : List (List ℕ)) (b : Bool) → bytes_eq word (codes "--help") ≡ false
     → bytes_eq word (codes "--version") ≡ false → bytes_eq word (codes "merge") ≡ false → bytes_eq word (codes "count") ≡ false
     → bytes_eq word (codes "utc") ≡ b
-    → Outcome (word ∷ more) (result_map_both Work (λ misuse. misuse)
-    (if b then result_map_both (Write Utc) (λ misuse. misuse) (strictness more)
-    else (if bytes_eq word (codes "unix") then result_map_both (Write Unix) (λ misuse. misuse) (strictness more)
-    else (if bytes_eq word (codes "at") then offset_words more
-    else (if bytes_eq word (codes "check") then check_task more
-    else (if bytes_eq word (codes "gaps") then gaps_task more else bounded_words word more))))))
+    → Outcome (word ∷ more) (if b then work_request (result_map_both (Write Utc) (λ misuse. misuse) (strictness more))
+    else (if bytes_eq word (codes "unix") then work_request (result_map_both (Write Unix) (λ misuse. misuse) (strictness more))
+    else (if bytes_eq word (codes "at") then work_request (offset_words more)
+    else (if bytes_eq word (codes "check") then work_request (check_task more)
+    else (if bytes_eq word (codes "gaps") then work_request (gaps_task more) else cut_words word more)))))
 by_utc word more true no_help no_version no_merge no_count e = by_strictness (word ∷ more) more (Write Utc) (utc (same_first word (codes "utc") more e))
 by_utc word more false no_help no_version no_merge no_count e = by_unix word more (bytes_eq word (codes "unix")) no_help no_version no_merge no_count e refl
 
 by_task : (word : List ℕ) (more : List (List ℕ)) → bytes_eq word (codes "--help") ≡ false → bytes_eq word (codes "--version") ≡ false
     → bytes_eq word (codes "merge") ≡ false → bytes_eq word (codes "count") ≡ false
-    → Outcome (word ∷ more) (result_map_both Work (λ misuse. misuse) (task_asked word more))
+    → Outcome (word ∷ more) (task_asked word more)
 unfolding task_asked
 by_task word more no_help no_version no_merge no_count = by_utc word more (bytes_eq word (codes "utc")) no_help no_version no_merge no_count refl
 
@@ -298,14 +349,14 @@ by_count words (text ∷ more) front = by_unit words text more (unit_of text) fr
 
 by_fourth : (word : List ℕ) (more : List (List ℕ)) (b : Bool) → bytes_eq word (codes "--help") ≡ false → bytes_eq word (codes "--version") ≡ false
     → bytes_eq word (codes "merge") ≡ false → bytes_eq word (codes "count") ≡ b
-    → Outcome (word ∷ more) (if b then count_request more else result_map_both Work (λ misuse. misuse) (task_asked word more))
+    → Outcome (word ∷ more) (if b then count_request more else task_asked word more)
 by_fourth word more true no_help no_version no_merge e = by_count (word ∷ more) more (same_first word (codes "count") more e)
 by_fourth word more false no_help no_version no_merge e = by_task word more no_help no_version no_merge e
 
 by_third : (word : List ℕ) (more : List (List ℕ)) (b : Bool) → bytes_eq word (codes "--help") ≡ false → bytes_eq word (codes "--version") ≡ false
     → bytes_eq word (codes "merge") ≡ b
     → Outcome (word ∷ more) (if b then result_map_both Merge (λ misuse. misuse) (strictness more)
-    else (if bytes_eq word (codes "count") then count_request more else result_map_both Work (λ misuse. misuse) (task_asked word more)))
+    else (if bytes_eq word (codes "count") then count_request more else task_asked word more))
 by_third word more true no_help no_version e = by_merge (word ∷ more) more (same_first word (codes "merge") more e)
 by_third word more false no_help no_version e = by_fourth word more (bytes_eq word (codes "count")) no_help no_version e refl
 
@@ -313,7 +364,7 @@ by_second : (word : List ℕ) (more : List (List ℕ)) (b : Bool) → bytes_eq w
     → Outcome (word ∷ more) (if b then asked_alone Version more
     else (if bytes_eq word (codes "merge") then result_map_both Merge (λ misuse. misuse) (strictness more)
     else (if bytes_eq word (codes "count") then count_request more
-    else result_map_both Work (λ misuse. misuse) (task_asked word more))))
+    else task_asked word more)))
 by_second word more true no_help e = by_version (word ∷ more) more (same_first word (codes "--version") more e)
 by_second word more false no_help e = by_third word more (bytes_eq word (codes "merge")) no_help e refl
 
@@ -322,7 +373,7 @@ by_first : (word : List ℕ) (more : List (List ℕ)) (b : Bool) → bytes_eq wo
     else (if bytes_eq word (codes "--version") then asked_alone Version more
     else (if bytes_eq word (codes "merge") then result_map_both Merge (λ misuse. misuse) (strictness more)
     else (if bytes_eq word (codes "count") then count_request more
-    else result_map_both Work (λ misuse. misuse) (task_asked word more)))))
+    else task_asked word more))))
 by_first word more true e = by_help (word ∷ more) more (same_first word (codes "--help") more e)
 by_first word more false e = by_second word more (bytes_eq word (codes "--version")) e refl
 
@@ -378,11 +429,32 @@ extra_is : (word : List ℕ) (more : List (List ℕ)) → ¬ (word ∷ more ≡ 
 extra_is word [] none = flag_is_extra word (bytes_eq word (codes "--strict")) refl none
 extra_is word (other ∷ more) none = refl
 
-bound_is : (words : List (List ℕ)) (word : List ℕ) (more : List (List ℕ)) (work : ℤ → Action) → BoundWord word work → words ≡ word ∷ more
-    → request_of words ≡ result_map_both Work (λ misuse. misuse) (result_map_both work (λ misuse. misuse) (bound_of more))
-unfolding request_of task_asked bounded_words
-bound_is words word more work (since w) e = rw (e, w) refl
-bound_is words word more work (until w) e = rw (e, w) refl
+-- a cut by its last bound
+bound_is : (words more : List (List ℕ)) (cut : Bound → cuts.Cut) → BoundWords words more cut
+    → request_of words ≡ result_map_both Cut (λ misuse. misuse) (result_map_both cut (λ misuse. misuse) (last_bound more))
+unfolding request_of task_asked cut_asked
+bound_is words more cut (until e) = rw e refl
+bound_is words more cut (between e read) = rw (e, read) refl
+bound_is words more cut (since_until e read) = rw (e, read) refl
+
+-- the misuse of a bound, whichever it is
+none_is : (words : List (List ℕ)) → BeforeBound words [] → request_of words ≡ Err NoInstant
+unfolding request_of task_asked cut_asked
+none_is words (first (since_first e)) = rw e refl
+none_is words (first (between_first e)) = rw e refl
+none_is words (last {cut = cut} h) = bound_is words [] cut h
+
+wrong_is : (words : List (List ℕ)) (text : List ℕ) (more : List (List ℕ)) (misuse : Misuse) → BeforeBound words (text ∷ more)
+    → bound_asked text ≡ Err misuse → request_of words ≡ Err misuse
+unfolding request_of task_asked cut_asked
+wrong_is words text more misuse (first (since_first e)) wrong = rw (e, wrong) refl
+wrong_is words text more misuse (first (between_first e)) wrong = rw (e, wrong) refl
+wrong_is words text more misuse (last {cut = cut} h) wrong = bound_is words (text ∷ more) cut h ∙ rw wrong refl
+
+since_is : (words : List (List ℕ)) (text : List ℕ) (more : List (List ℕ)) (from : Bound) → words ≡ codes "since" ∷ text ∷ more → IsBound text from
+    → request_of words ≡ result_map_both Cut (λ misuse. misuse) (since_rest from more)
+unfolding request_of task_asked cut_asked
+since_is words text more from e read = rw (e, read) refl
 
 pub request_is : (words : List (List ℕ)) (request : Request) → RequestWords words request → request_of words ≡ Ok request
 unfolding request_of
@@ -393,19 +465,22 @@ request_is words request (count {by = by} {more = more} {shows_all = all} {is_st
     strict_count words more by all (Ok b) front (strict_is more b h)
 request_is words request (task {work = work} {more = more} {is_strict = b} front h) =
     strict_task words more work (Ok b) front (strict_is more b h)
-request_is words request (bound_task {work = work} {word = word} {text = text} {bound = bound} h e read) =
-    bound_is words word (text ∷ []) work h e ∙ rw (read.instant, read.not_finer) refl
+request_is words request (since_cut {text = text} {from = from} e read) = since_is words text [] from e read
+request_is words request (bound_cut {cut = cut} {text = text} {bound = bound} h read) = bound_is words (text ∷ []) cut h ∙ rw read refl
 
 not_first : (word known : List ℕ) (others : List (List ℕ)) → list_any (bytes_eq word) (known ∷ others) ≡ false
     → (bytes_eq word known ≡ false) × (list_any (bytes_eq word) others ≡ false)
 not_first word known others e = neither (bytes_eq word known) (list_any (bytes_eq word) others) e
 
+after_gaps : List (List ℕ)
+after_gaps = codes "since" ∷ codes "until" ∷ codes "between" ∷ []
+
 after_at : List (List ℕ)
-after_at = codes "check" ∷ codes "gaps" ∷ codes "since" ∷ codes "until" ∷ []
+after_at = codes "check" ∷ codes "gaps" ∷ after_gaps
 
 unknown_is : (words : List (List ℕ)) (word : List ℕ) (more : List (List ℕ)) → words ≡ word ∷ more → list_any (bytes_eq word) first_words ≡ false
     → request_of words ≡ Err UnknownWord
-unfolding request_of task_asked bounded_words after_at
+unfolding request_of task_asked cut_asked after_at after_gaps
 unknown_is words word more e none =
     let one = not_first word (codes "--help") (codes "--version" ∷ codes "merge" ∷ codes "count" ∷ codes "utc" ∷ codes "unix" ∷ codes "at" ∷ after_at) none in
     let other = not_first word (codes "--version") (codes "merge" ∷ codes "count" ∷ codes "utc" ∷ codes "unix" ∷ codes "at" ∷ after_at) one.1 in
@@ -414,11 +489,12 @@ unknown_is words word more e none =
     let two = not_first word (codes "utc") (codes "unix" ∷ codes "at" ∷ after_at) fourth.1 in
     let three = not_first word (codes "unix") (codes "at" ∷ after_at) two.1 in
     let four = not_first word (codes "at") after_at three.1 in
-    let five = not_first word (codes "check") (codes "gaps" ∷ codes "since" ∷ codes "until" ∷ []) four.1 in
-    let gap = not_first word (codes "gaps") (codes "since" ∷ codes "until" ∷ []) five.1 in
-    let six = not_first word (codes "since") (codes "until" ∷ []) gap.1 in
-    let seven = not_first word (codes "until") [] six.1 in
-    rw (e, one.0, other.0, third.0, fourth.0, two.0, three.0, four.0, five.0, gap.0, six.0, seven.0) refl
+    let five = not_first word (codes "check") (codes "gaps" ∷ after_gaps) four.1 in
+    let gap = not_first word (codes "gaps") after_gaps five.1 in
+    let six = not_first word (codes "since") (codes "until" ∷ codes "between" ∷ []) gap.1 in
+    let seven = not_first word (codes "until") (codes "between" ∷ []) six.1 in
+    let eight = not_first word (codes "between") [] seven.1 in
+    rw (e, one.0, other.0, third.0, fourth.0, two.0, three.0, four.0, five.0, gap.0, six.0, seven.0, eight.0) refl
 
 pub misuse_is : (words : List (List ℕ)) (misuse : Misuse) → MisuseWords words misuse → request_of words ≡ Err misuse
 unfolding request_of task_asked
@@ -426,11 +502,8 @@ misuse_is words misuse (no_word e) = rw e refl
 misuse_is words misuse (unknown_word {word = word} {more = more} e none) = unknown_is words word more e none
 misuse_is words misuse (no_offset e) = rw e refl
 misuse_is words misuse (offset e read) = rw (e, read) refl
-misuse_is words misuse (no_instant {work = work} {word = word} h e) = bound_is words word [] work h e
-misuse_is words misuse (instant {work = work} {word = word} {text = text} {more = more} h e read) =
-    bound_is words word (text ∷ more) work h e ∙ rw read refl
-misuse_is words misuse (too_fine {work = work} {word = word} {text = text} {more = more} h e read finer) =
-    bound_is words word (text ∷ more) work h e ∙ rw (read, finer) refl
+misuse_is words misuse (no_instant h) = none_is words h
+misuse_is words misuse (no_bound {text = text} {more = more} h read) = wrong_is words text more misuse h read
 misuse_is words misuse (no_unit e) = rw e refl
 misuse_is words misuse (unit e none) = rw (e, none) refl
 misuse_is words misuse (no_count_offset e u) = rw (e, u) refl
@@ -444,8 +517,10 @@ misuse_is words misuse (after_version e) = rw e refl
 misuse_is words misuse (after_merge {word = word} {more = more} e none) = rw (e, extra_is word more none) refl
 misuse_is words misuse (after_task {work = work} {word = word} {more = more} front none) =
     strict_task words (word ∷ more) work (Err Extra) front (extra_is word more none)
-misuse_is words misuse (after_bound {work = work} {word = word} {text = text} {other = other} {more = more} h e read) =
-    bound_is words word (text ∷ other ∷ more) work h e ∙ rw (read.instant, read.not_finer) refl
+misuse_is words misuse (after_since {text = text} {other = other} {more = more} {from = from} e read not_until) =
+    since_is words text (other ∷ more) from e read ∙ rw not_until refl
+misuse_is words misuse (after_bound {cut = cut} {text = text} {other = other} {more = more} h read) =
+    bound_is words (text ∷ other ∷ more) cut h ∙ rw read refl
 
 -- ---- both ways
 
@@ -454,3 +529,53 @@ request_found words request e = taken_request words request (subst (Outcome word
 
 pub misuse_found : (words : List (List ℕ)) (misuse : Misuse) → request_of words ≡ Err misuse → MisuseWords words misuse
 misuse_found words misuse e = taken_misuse words misuse (subst (Outcome words) e (outcome words))
+
+-- ---- bounds that are date-times with an offset
+
+pub exact : (text : List ℕ) (i : ℤ) → reading_as instant_of text ≡ Ok i → is_finer text ≡ false → bound_asked text ≡ Ok (Exact i)
+exact text i read finer = rw (read, finer) refl
+
+pub finer_is_none : (text : List ℕ) (i : ℤ) → reading_as instant_of text ≡ Ok i → is_finer text ≡ true → bound_asked text ≡ Err TooFine
+finer_is_none text i read finer = rw (read, finer) refl
+
+pub out_of_range_is_none : (text : List ℕ) (component : Component) → reading_as instant_of text ≡ Err (OutOfRange component)
+    → bound_asked text ≡ Err (Instant (OutOfRange component))
+out_of_range_is_none text component read = rw read refl
+
+-- no bound of another kind is an instant
+not_back : (last : Bool) (back : Option ℕ) (i : ℤ)
+    → (if last then result_map_both BeforeLast (λ misuse. misuse) (back_read back) else result_map_both BeforeNow (λ misuse. misuse) (back_read back))
+    ≡ Ok (Exact i) → ⊥
+not_back true (Some seconds) i e = absurd cc
+not_back true None i e = absurd cc
+not_back false (Some seconds) i e = absurd cc
+not_back false None i e = absurd cc
+
+not_local : (long : Bool) (read : Result ℤ TextRefusal) (i : ℤ) → (if long then Err (Instant Syntax) else local_read read) ≡ Ok (Exact i) → ⊥
+not_local true read i e = absurd cc
+not_local false (Ok wall) i e = absurd cc
+not_local false (Err refusal) i e = absurd cc
+
+not_kinds : (last now long : Bool) (back since : Option ℕ) (read : Result ℤ TextRefusal) (i : ℤ)
+    → (if last then result_map_both BeforeLast (λ misuse. misuse) (back_read back)
+    else (if now then result_map_both BeforeNow (λ misuse. misuse) (back_read since)
+    else (if long then Err (Instant Syntax) else local_read read))) ≡ Ok (Exact i) → ⊥
+not_kinds true now long back since read i e = not_back true back i e
+not_kinds false true long back since read i e = not_back false since i e
+not_kinds false false long back since read i e = not_local long read i e
+
+not_other : (text : List ℕ) (i : ℤ) → other_bound text ≡ Ok (Exact i) → ⊥
+unfolding other_bound
+not_other text i e =
+    not_kinds (starts_with nat_eq text (codes "last-")) (starts_with nat_eq text (codes "-")) (nat_lt 29 (length text)) (duration_of (drop 5 text))
+    (duration_of (drop 1 text)) (reading_as instant_of (local_text text)) i e
+
+only_by : (text : List ℕ) (read : Result ℤ TextRefusal) (finer : Bool) (i : ℤ) → bound_read finer read text ≡ Ok (Exact i)
+    → (read ≡ Ok i) × (finer ≡ false)
+only_by text (Ok j) true i e = absurd cc
+only_by text (Ok j) false i e = (cc, refl)
+only_by text (Err Syntax) finer i e = absurd (not_other text i e)
+only_by text (Err (OutOfRange component)) finer i e = absurd cc
+
+pub only_exact : (text : List ℕ) (i : ℤ) → bound_asked text ≡ Ok (Exact i) → (reading_as instant_of text ≡ Ok i) × (is_finer text ≡ false)
+only_exact text i e = only_by text (reading_as instant_of text) (is_finer text) i e

@@ -19,6 +19,7 @@ use Rattle.stamps.specs.LineStamps.{stamp, stamp_of}
 use Rattle.stamps.specs.Styles.{text_in, has_four_digits}
 use Rattle.stamps.specs.declared.decide.Stamp.{Stamp}
 use Rattle.stamps.specs.declared.readers.Reader.TheVariants.{Plain}
+use Rattle.stamps.specs.declared.task.Style.{Style}
 use Rattle.stamps.specs.declared.task.Style.TheVariants.{Utc}
 use Rattle.stamps.proofs.StampLawLemmas.{sound, stamp_again}
 use Rattle.stamps.proofs.StyleLemmas.{four_digits-true}
@@ -55,15 +56,15 @@ stamp-fixed line s e fixed =
     ∙ ap (λ (z : Stamp). Ok z) (utc_is s _ _ h.rest (instant_of-utc i) count h.zone)
 
 -- what a line with a stamp is written as
-written_as : (line : List ℕ) (s : Stamp) (text : List ℕ) → stamp_of line ≡ Ok s → text_in Utc s.instant ≡ Some text
-    → line_written Plain Utc false line ≡ text ++ drop s.length line
-written_as line s text e f =
+pub written_as : (style : Style) (line : List ℕ) (s : Stamp) (text : List ℕ) → stamp_of line ≡ Ok s → text_in style s.instant ≡ Some text
+    → line_written Plain style false line ≡ text ++ drop s.length line
+written_as style line s text e f =
     let count : 0 + s.length ≡ s.length = omega arith in
     rw (no_mark-later line, e, f) (ap (λ (n : ℕ). text ++ drop n line) count)
 
 pub rest_stays : (line : List ℕ) (s : Stamp) (text : List ℕ) → stamp_of line ≡ Ok s → text_in Utc s.instant ≡ Some text
     → line_written Plain Utc false line ≡ fixed_text s.instant ++ drop s.length line
-rest_stays line s text e f = written_as line s text e f ∙ ap (λ (z : List ℕ). z ++ drop s.length line) (fixed_of s.instant text f).1
+rest_stays line s text e f = written_as Utc line s text e f ∙ ap (λ (z : List ℕ). z ++ drop s.length line) (fixed_of s.instant text f).1
 
 pub same_instant : (line : List ℕ) (s : Stamp) (text : List ℕ) → stamp_of line ≡ Ok s → text_in Utc s.instant ≡ Some text
     → stamp_of (line_written Plain Utc false line) ≡ Ok (in_utc s)

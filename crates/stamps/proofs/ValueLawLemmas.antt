@@ -8,9 +8,14 @@ use Rattle.std.proofs.lemmas.Option.{slice_get_within}
 use Rattle.log_forms.specs.declared.places.Place.TheVariants.{Json}
 use Rattle.log_forms.specs.declared.stamps.Stamp as forms
 use Rattle.rfc3339.specs.UnixTexts.{unix_text}
+use Rattle.std.specs.Option.{option_map}
+use Rattle.stamps.specs.Decisions.{rewritten}
+use Rattle.stamps.specs.FrontLines.{value_lead, with_lead}
 use Rattle.stamps.specs.Laws.{line_written}
+use Rattle.stamps.specs.Runs.{output_of}
+use Rattle.stamps.specs.declared.fronted.Lead.{Lead}
 use Rattle.stamps.specs.Readers.{is_quote, line_stamp, value_kind}
-use Rattle.stamps.specs.StampTexts.{in_quotes, is_date}
+use Rattle.stamps.specs.StampTexts.{in_quotes, is_date, stamp_text}
 use Rattle.stamps.specs.Styles.{text_in}
 use Rattle.stamps.specs.declared.readers.LineStamp.{LineStamp}
 use Rattle.stamps.specs.declared.readers.Reader.{Reader}
@@ -39,14 +44,14 @@ slice_get-take (suc n) [] i low = refl
 slice_get-take (suc n) (x ∷ xs) zero low = refl
 slice_get-take (suc n) (x ∷ xs) (suc i) low = slice_get-take n xs i (omega arith)
 
-quote_in : (line : List ℕ) (place : ℕ) → is_quote (slice_get (take 1024 line) place) ≡ true → slice_get line place ≡ Some 34
+quote_in : (line : List ℕ) (place : ℕ) → is_quote (slice_get (take 65533 line) place) ≡ true → slice_get line place ≡ Some 34
 quote_in line place e =
-    let is = quote_of (slice_get (take 1024 line) place) e in
-    let low = slice_get_within (take 1024 line) place 34 is in
-    sym (slice_get-take 1024 line place (omega (arith, low, length-take 1024 line))) ∙ is
+    let is = quote_of (slice_get (take 65533 line) place) e in
+    let low = slice_get_within (take 65533 line) place 34 is in
+    sym (slice_get-take 65533 line place (omega (arith, low, length-take 65533 line))) ∙ is
 
 quoted_is : (line : List ℕ) (stamp : forms.Stamp) (none before behind : Bool) → nat_eq stamp.start 0 ≡ none
-    → is_quote (slice_get (take 1024 line) (stamp.start - 1)) ≡ before → is_quote (slice_get (take 1024 line) (stamp.start + stamp.length)) ≡ behind
+    → is_quote (slice_get (take 65533 line) (stamp.start - 1)) ≡ before → is_quote (slice_get (take 65533 line) (stamp.start + stamp.length)) ≡ behind
     → cond none Other (cond (not before) Number (cond behind Quoted Other)) ≡ Quoted
     → (1 ≤ stamp.start) × (slice_get line (stamp.start - 1) ≡ Some 34) × (slice_get line (stamp.start + stamp.length) ≡ Some 34)
 quoted_is line stamp true before behind e f g is = absurd cc
@@ -58,3 +63,24 @@ quoted_is line stamp false true true e f g is =
 pub quotes : (line : List ℕ) (stamp : forms.Stamp) → value_kind Json line stamp ≡ Quoted
     → (1 ≤ stamp.start) × (slice_get line (stamp.start - 1) ≡ Some 34) × (slice_get line (stamp.start + stamp.length) ≡ Some 34)
 quotes line stamp is = quoted_is line stamp _ _ _ refl refl refl is
+
+-- ---- a merge in one style
+
+-- the stamp of a record in a text
+abbrev lead_with : LineStamp → List ℕ → Lead
+lead_with stamp text = record { start = stamp.start; text = text; count = stamp.length }
+
+lead_is : (a b : Lead) → ◌≡◌ {A = Option Lead} (Some a) (Some b) → a ≡ b
+lead_is a b e = cc
+
+merged_by : (style : Style) (line : List ℕ) (stamp : LineStamp) (o : Option (List ℕ)) (lead : Lead) → stamp_text style stamp ≡ o
+    → option_map (λ (text : List ℕ). lead_with stamp text) o ≡ Some lead
+    → with_lead lead line ≡ output_of (rewritten style false 1 (Ok stamp)) line
+merged_by style line stamp None lead e h = absurd cc
+merged_by style line stamp (Some text) lead e h =
+    let is : lead_with stamp text ≡ lead = lead_is (lead_with stamp text) lead h in
+    rw e (ap (λ (z : Lead). with_lead z line) (sym is))
+
+pub merged : (reader : Reader) (style : Style) (line : List ℕ) (stamp : LineStamp) (lead : Lead) → line_stamp reader None false line ≡ Ok stamp
+    → value_lead style stamp ≡ Some lead → with_lead lead line ≡ line_written reader style false line
+merged reader style line stamp lead e h = rw e (merged_by style line stamp (stamp_text style stamp) lead refl h)

@@ -15,7 +15,7 @@ use Rattle.stamps.specs.Laws.{fed, last_written, line_written, lines_written, te
 use Rattle.stamps.specs.LineStamps.{byte_order_mark, has_mark, mark_length, stamp_of}
 use Rattle.stamps.specs.Runs.{Run, input_run, known_after, last_of, last_run, line_feed, line_run, output_of, then_on}
 use Rattle.stamps.specs.StampTexts.{stamp_text}
-use Rattle.log_forms.specs.Stamps.{stamp_at}
+use Rattle.stamps.specs.Zoned.{assumed_stamp}
 use Rattle.log_forms.specs.Years.{assumed_after, assumed_then}
 use Rattle.log_forms.specs.declared.instants.Assumed.{Assumed}
 use Rattle.log_forms.specs.declared.places.Place.{Place}
@@ -83,12 +83,12 @@ assumed_same assumed None none = refl
 assumed_same assumed (Some last) none = ap (assumed_then assumed last) none
 
 -- the instants before change nothing
-same_stamp : (r : Reader) (last : Option ℤ) (is_first : Bool) (line : List ℕ) → IsOfOneLine r
+pub same_stamp : (r : Reader) (last : Option ℤ) (is_first : Bool) (line : List ℕ) → IsOfOneLine r
     → line_stamp r last is_first line ≡ line_stamp r None is_first line
 same_stamp Plain last is_first line one = refl
 same_stamp (Formed by) last is_first line one =
     let before = mark_length (has_mark is_first line) in
-    ap (λ (assumed : Assumed). formed_at before by.place (drop before line) (stamp_at by.form by.place by.text assumed (drop before line)))
+    ap (λ (assumed : Assumed). formed_at before by.place (drop before line) (assumed_stamp by.zone by assumed (drop before line)))
     (assumed_same by.assumed last one)
 
 -- ---- all lines

@@ -3,7 +3,7 @@ _stamps() {
     local typed="${COMP_WORDS[COMP_CWORD]}" options=
     COMPREPLY=()
     if [ "$COMP_CWORD" -eq 1 ]; then
-        mapfile -t COMPREPLY < <(compgen -W 'utc at unix check gaps count since until merge --list-forms --help --version' -- "$typed")
+        mapfile -t COMPREPLY < <(compgen -W 'utc at unix check gaps count since until between merge --list-forms --help --version' -- "$typed")
         return
     fi
     if [ "${COMP_WORDS[COMP_CWORD - 1]}" = --form ]; then
@@ -17,15 +17,16 @@ _stamps() {
     # With no answer here, bash completes the name of a file.
     [[ "$typed" == -* ]] || return 0
     case "${COMP_WORDS[1]}" in
-        utc) options='--strict --form --place --offset --year --quiet' ;;
-        at) options='--strict --form --place --offset --year --quiet' ;;
-        unix) options='--strict --form --place --offset --year --quiet' ;;
-        check) options='--all --strict --form --place --offset --year --quiet' ;;
-        gaps) options='--strict --form --place --offset --year --quiet' ;;
-        count) options='--all --strict --form --place --offset --year --quiet' ;;
-        since) options='--form --place --offset --year --quiet' ;;
-        until) options='--form --place --offset --year --quiet' ;;
-        merge) options='--to --strict --form --place --offset --year --quiet' ;;
+        utc) options='--strict --form --place --offset --zone --year --quiet' ;;
+        at) options='--strict --form --place --offset --zone --year --quiet' ;;
+        unix) options='--strict --form --place --offset --zone --year --quiet' ;;
+        check) options='--all --strict --form --place --offset --zone --year --quiet' ;;
+        gaps) options='--strict --form --place --offset --zone --year --quiet' ;;
+        count) options='--all --strict --form --place --offset --zone --year --quiet' ;;
+        since) options='--until --verbose --form --place --offset --zone --year --quiet' ;;
+        until) options='--verbose --form --place --offset --zone --year --quiet' ;;
+        between) options='--verbose --form --place --offset --zone --year --quiet' ;;
+        merge) options='--to --strict --form --place --offset --zone --year --quiet' ;;
     esac
     mapfile -t COMPREPLY < <(compgen -W "$options" -- "$typed")
 }

@@ -6,9 +6,11 @@ use Rattle.plain_times.specs.Sums.{wall_clock_if_any}
 use Rattle.offset_times.specs.Local.{instant_of, local_multiple_below, shown_at, wall_at}
 use Rattle.line_counts.specs.Counting.{Counting, most}
 use Rattle.line_counts.specs.Steps.{step_of}
+use Rattle.stamps.specs.Changes.{choice_after, first_choice, reader_by}
 use Rattle.stamps.specs.LineInstants.{line_instant}
 use Rattle.stamps.specs.Notes.{text_or_unix}
 use Rattle.stamps.specs.Styles.{text_in}
+use Rattle.stamps.specs.declared.changes.Choice.{Choice}
 use Rattle.stamps.specs.declared.counts.Clock.{Clock}
 use Rattle.stamps.specs.declared.counts.ClockBuckets.{ClockBuckets}
 use Rattle.stamps.specs.declared.counts.Unit.{Unit}
@@ -47,9 +49,11 @@ abbrev pub text_in_place : ℕ → List ℕ
 text_in_place count = codes "... " ++ decimal count ++ codes " rows of 0\n"
 
 -- how lines are counted
-abbrev pub counting : ClockBuckets → Counting
+abbrev pub counting : ClockBuckets → Counting Choice
 counting buckets = record {
-  instant = line_instant buckets.reader;
+  memory = first_choice;
+  instant = λ choice. line_instant (reader_by buckets.anew choice.own buckets.reader);
+  after = choice_after buckets.anew;
   bucket = bucket_of buckets.clock;
   next = next_bucket buckets.clock;
   row = row_text buckets.clock;

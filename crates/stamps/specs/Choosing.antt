@@ -1,5 +1,5 @@
 -- The reader that the first lines of a log choose.
-use Rattle.std.specs.Prelude.{ℕ, ◌&&◌, Bool, false, List, [], ◌∷◌, ℤ, Option, Some, None, Result, Ok, Err}
+use Rattle.std.specs.Prelude.{ℕ, ◌&&◌, Bool, false, List, [], ◌∷◌, ℤ, Option, Some, None, is_some, if◌then◌else◌, Result, Ok, Err}
 use Rattle.std.specs.Result.{is_ok}
 use Rattle.log_forms.specs.Choices.{choice_of, reader_form, reader_key, reader_place, some_year}
 use Rattle.log_forms.specs.Forms.{form_named}
@@ -21,14 +21,18 @@ stamp_by number line = stamp_at (form_named (reader_form number)) (reader_place 
 abbrev pub reads : ℕ → List ℕ → Bool
 reads number line = is_ok (stamp_by number line)
 
--- whether a reader reads a stamp in each of two lines
-abbrev pub reads_two : Option ℕ → List ℕ → List ℕ → Bool
-reads_two (Some number) first second = reads number first && reads number second
-reads_two None first second = false
+-- the reader, if it reads a stamp in each of two lines
+abbrev pub if_both_read : Option ℕ → List ℕ → List ℕ → Option ℕ
+if_both_read (Some number) first second = if reads number first && reads number second then Some number else None
+if_both_read None first second = None
+
+-- the reader that two lines choose, if it reads a stamp in both
+abbrev pub chosen_by_two : List ℕ → List ℕ → Option ℕ
+chosen_by_two first second = if_both_read (choice_of (first ∷ second ∷ [])) first second
 
 -- whether the reader that two lines choose reads a stamp in both
 abbrev pub both_read : List ℕ → List ℕ → Bool
-both_read first second = reads_two (choice_of (first ∷ second ∷ [])) first second
+both_read first second = is_some (chosen_by_two first second)
 
 -- whether a form at a place is RFC 3339 at the front
 abbrev pub is_plain : FormName → Place → Bool
@@ -40,19 +44,24 @@ abbrev pub named_reader : FormName → Place → List ℕ → Option ℤ → Opt
 named_reader Rfc3339 at text offset year = plain_reader at text offset year
 named_reader name at text offset year = whole_reader (form_named name) at text offset year
 
--- the reader of a number with a year, an offset and a place, or the misuse of one of them
-abbrev pub chosen_at_year : ℕ → Place × List ℕ → Option ℤ → Result (Option ℤ) ReadingMisuse → Result Reader ReadingMisuse
-chosen_at_year number found offset (Ok year) = named_reader (reader_form number) found.0 found.1 offset year
-chosen_at_year number found offset (Err misuse) = Err misuse
+-- the reader of a form of a number at a place
+abbrev pub chosen_at : ℕ → Result (Place × List ℕ) ReadingMisuse → Option ℤ → Option ℤ → Result Reader ReadingMisuse
+chosen_at number (Ok found) offset year = named_reader (reader_form number) found.0 found.1 offset year
+chosen_at number (Err misuse) offset year = Err misuse
 
-abbrev pub chosen_at_offset : ℕ → Place × List ℕ → Result (Option ℤ) ReadingMisuse → Option (List ℕ) → Result Reader ReadingMisuse
-chosen_at_offset number found (Ok offset) year = chosen_at_year number found offset (year_asked year)
-chosen_at_offset number found (Err misuse) year = Err misuse
+-- the reader of the form and the place of this number, with an offset and a year
+abbrev pub chosen_with : ℕ → Option ℤ → Option ℤ → Result Reader ReadingMisuse
+chosen_with number offset year = chosen_at number (place_text (reader_place number) (reader_key number)) offset year
 
-abbrev pub chosen_at_place : ℕ → Result (Place × List ℕ) ReadingMisuse → Option (List ℕ) → Option (List ℕ) → Result Reader ReadingMisuse
-chosen_at_place number (Ok found) offset year = chosen_at_offset number found (offset_asked offset) year
-chosen_at_place number (Err misuse) offset year = Err misuse
+-- the same with a year and an offset that words give, or the misuse of one of them
+abbrev pub chosen_at_year : ℕ → Option ℤ → Result (Option ℤ) ReadingMisuse → Result Reader ReadingMisuse
+chosen_at_year number offset (Ok year) = chosen_with number offset year
+chosen_at_year number offset (Err misuse) = Err misuse
+
+abbrev pub chosen_at_offset : ℕ → Result (Option ℤ) ReadingMisuse → Option (List ℕ) → Result Reader ReadingMisuse
+chosen_at_offset number (Ok offset) year = chosen_at_year number offset (year_asked year)
+chosen_at_offset number (Err misuse) year = Err misuse
 
 -- the reader of the form and the place of this number
 abbrev pub chosen_reader : ℕ → Option (List ℕ) → Option (List ℕ) → Result Reader ReadingMisuse
-chosen_reader number offset year = chosen_at_place number (place_text (reader_place number) (reader_key number)) offset year
+chosen_reader number offset year = chosen_at_offset number (offset_asked offset) year

@@ -5,6 +5,7 @@ use Rattle.std.specs.Prelude.{Result, Ok, Err}
 use Rattle.std.specs.Result.{is_ok}
 use Rattle.line_devices.specs.StampTallies.{first_tally, kind_of, tally_after}
 use Rattle.line_devices.specs.declared.stamp_tallies.LineKind.{LineKind}
+use Rattle.stamps.specs.Changes.{choice_after, first_choice, reader_by}
 use Rattle.stamps.specs.Readers.{line_stamp}
 use Rattle.stamps.specs.StampTexts.{stamp_text}
 use Rattle.stamps.specs.declared.decide.Decision.{Decision}
@@ -20,7 +21,7 @@ use Rattle.stamps.specs.declared.readers.LineRefusal.TheVariants.{Absent, OutOfR
 use Rattle.stamps.specs.declared.readers.LineStamp.{LineStamp}
 use Rattle.stamps.specs.declared.readers.Reader.{Reader}
 use Rattle.stamps.specs.declared.task.Action.{Action}
-use Rattle.stamps.specs.declared.task.Action.TheVariants.{Write, Check, CheckAll, Gaps, Since, Until}
+use Rattle.stamps.specs.declared.task.Action.TheVariants.{Write, Check, CheckAll, Gaps, Since, Until, Between}
 use Rattle.stamps.specs.declared.task.Style.{Style}
 use Rattle.stamps.specs.declared.task.Task.{Task}
 
@@ -99,6 +100,7 @@ going_on false = Skip
 abbrev pub goes_on : Action → Bool → Result LineStamp LineRefusal → Bool
 goes_on (Since bound) was (Ok stamp) = not (int_lt stamp.instant bound)
 goes_on (Until bound) was (Ok stamp) = int_lt stamp.instant bound
+goes_on (Between from to) was (Ok stamp) = not (int_lt stamp.instant from) && int_lt stamp.instant to
 goes_on (Write style is_strict) was (Ok stamp) = was
 goes_on (Check is_strict) was (Ok stamp) = was
 goes_on (CheckAll is_strict) was (Ok stamp) = was
@@ -123,6 +125,7 @@ latest_of (Check is_strict) latest (Ok stamp) = latest
 latest_of (CheckAll is_strict) latest (Ok stamp) = latest
 latest_of (Since bound) latest (Ok stamp) = latest
 latest_of (Until bound) latest (Ok stamp) = latest
+latest_of (Between from to) latest (Ok stamp) = latest
 latest_of action latest (Err refusal) = latest
 
 -- the kind of a line with this stamp
@@ -130,43 +133,49 @@ abbrev pub line_kind : List ℕ → Result LineStamp LineRefusal → LineKind
 line_kind line stamp = kind_of line (is_ok stamp)
 
 -- the state after one more line of this kind with this stamp
-abbrev pub state_by : Action → State → LineKind → Result LineStamp LineRefusal → State
-state_by action state kind stamp = record {
+abbrev pub state_by : Task → State → List ℕ → LineKind → Result LineStamp LineRefusal → State
+state_by task state line kind stamp = record {
   lines = one_more state.lines;
   last = last_of state.last stamp;
-  latest = latest_of action state.latest stamp;
-  goes_on = goes_on action state.goes_on stamp;
+  latest = latest_of task.action state.latest stamp;
+  goes_on = goes_on task.action state.goes_on stamp;
   tally = tally_after state.tally (one_more state.lines) kind;
+  choice = choice_after task.anew state.choice (one_more state.lines) kind line;
 }
 
--- the decision on the line with this stamp, by the states before and after it
-abbrev pub decision_by : Action → State → State → Result LineStamp LineRefusal → Decision
-decision_by (Write style is_strict) before after stamp = rewritten style is_strict after.lines stamp
-decision_by (Check is_strict) before after stamp = check_line is_strict after.lines before.last stamp
-decision_by (CheckAll is_strict) before after stamp = as_note (check_line is_strict after.lines before.last stamp)
-decision_by (Gaps limit is_strict) before after stamp = gap_line limit is_strict after.lines before.latest stamp
-decision_by (Since bound) before after stamp = going_on after.goes_on
-decision_by (Until bound) before after stamp = going_on after.goes_on
+-- the decision on the line with this stamp, by the last and the latest instant before it, and by the state after it
+abbrev pub decision_by : Action → Option ℤ → Option ℤ → State → Result LineStamp LineRefusal → Decision
+decision_by (Write style is_strict) last latest after stamp = rewritten style is_strict after.lines stamp
+decision_by (Check is_strict) last latest after stamp = check_line is_strict after.lines last stamp
+decision_by (CheckAll is_strict) last latest after stamp = as_note (check_line is_strict after.lines last stamp)
+decision_by (Gaps limit is_strict) last latest after stamp = gap_line limit is_strict after.lines latest stamp
+decision_by (Since bound) last latest after stamp = going_on after.goes_on
+decision_by (Until bound) last latest after stamp = going_on after.goes_on
+decision_by (Between from to) last latest after stamp = going_on after.goes_on
 
 -- whether the next line is the first
 abbrev pub is_first : State → Bool
 is_first state = state.lines == 0
 
+-- the stamp of a line after others: by the reader that they chose anew, or else the first one
+abbrev pub stamp_after : Task → State → List ℕ → Result LineStamp LineRefusal
+stamp_after task state line = line_stamp (reader_by task.anew state.choice.own task.reader) state.last (is_first state) line
+
 -- the decision on a line
 unfoldable pub decision_of : Task → State → List ℕ → Decision
 decision_of task state line =
-    let stamp = line_stamp task.reader state.last (is_first state) line in
-    decision_by task.action state (state_by task.action state (line_kind line stamp) stamp) stamp
+    let stamp = stamp_after task state line in
+    decision_by task.action state.last state.latest (state_by task state line (line_kind line stamp) stamp) stamp
 
 -- the state after this line
 unfoldable pub state_after : Task → State → List ℕ → State
-state_after task state line =
-    let stamp = line_stamp task.reader state.last (is_first state) line in state_by task.action state (line_kind line stamp) stamp
+state_after task state line = let stamp = stamp_after task state line in state_by task state line (line_kind line stamp) stamp
 
 -- whether to keep the lines before the first stamp: they count as earlier than every instant
 abbrev pub goes_on_first : Action → Bool
 goes_on_first (Until bound) = true
 goes_on_first (Since bound) = false
+goes_on_first (Between from to) = false
 goes_on_first (Write style is_strict) = false
 goes_on_first (Check is_strict) = false
 goes_on_first (CheckAll is_strict) = false
@@ -174,7 +183,14 @@ goes_on_first (Gaps limit is_strict) = false
 
 -- the state before the first line
 abbrev pub first_state : Task → State
-first_state task = record { lines = 0; last = None; latest = None; goes_on = goes_on_first task.action; tally = first_tally }
+first_state task = record {
+  lines = 0;
+  last = None;
+  latest = None;
+  goes_on = goes_on_first task.action;
+  tally = first_tally;
+  choice = first_choice;
+}
 
 -- the finding of lines without any stamp
 abbrev pub no_stamp : State → Option Finding
@@ -188,10 +204,11 @@ finding_by (Gaps limit is_strict) state = None
 finding_by (Write style is_strict) state = None
 finding_by (Since bound) state = None
 finding_by (Until bound) state = None
+finding_by (Between from to) state = None
 
 abbrev pub finding_at_end : Task → State → Option Finding
 finding_at_end task state = finding_by task.action state
 
--- the task of an action, by how stamps are read
+-- the task of an action, by how stamps are read: words name their form
 abbrev pub reading : Reader → Action → Task
-reading reader action = record { action = action; reader = reader }
+reading reader action = record { action = action; reader = reader; anew = None }

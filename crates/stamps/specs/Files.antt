@@ -39,8 +39,9 @@ unfoldable pub front_length : List (List ℕ) → ℕ
 front_length [] = 0
 front_length (word ∷ words) =
     if takes_value word then 2
+    else (if bytes_eq word (codes "between") then 3
     else (if takes_files word then 1
-    else (if bytes_eq word (codes "count") then count_length words else length (word ∷ words)))
+    else (if bytes_eq word (codes "count") then count_length words else length (word ∷ words))))
 
 -- whether the name of a file is that of a compressed one
 abbrev pub is_compressed : List ℕ → Bool

@@ -1,5 +1,5 @@
 -- Laws of all inputs, for the owner of a log. A function of `src/laws.rt` proves each of them.
-use Rattle.std.specs.Prelude.{◌≡◌, ◌↔◌, ℕ, ◌+◌, ◌-◌, ◌≤◌, Bool, true, false, not, ◌&&◌, List, []}
+use Rattle.std.specs.Prelude.{◌≡◌, ◌≢◌, ◌↔◌, ℕ, ◌+◌, ◌-◌, ◌≤◌, nat_lt, Bool, true, false, not, ◌&&◌, List, []}
 use Rattle.std.specs.Prelude.{◌∷◌, ◌++◌, drop, length, map, nat_eq, slice_get, take, if◌then◌else◌, ℤ, ◌-ℤ◌, int_lt, Option, Some, None}
 use Rattle.std.specs.Prelude.{Result, Ok, Err, IsOk, IsTrue}
 use Rattle.std.specs.Cmp.Lexicographic.{slice_cmp}
@@ -16,11 +16,28 @@ use Rattle.rfc3339.specs.UnixTexts.{unix_text}
 use Rattle.rfc3339.specs.declared.parts.Parts.{Parts}
 use Rattle.rfc3339.specs.declared.refusal.Component.{Component}
 use Rattle.rfc3339.specs.declared.refusal.TextRefusal.TheVariants.{Syntax, OutOfRange}
+use Rattle.line_devices.specs.StampTallies.{is_bare}
+use Rattle.line_devices.specs.declared.stamp_tallies.LineKind.{LineKind}
+use Rattle.line_devices.specs.declared.stamp_tallies.LineKind.TheVariants.{Stamped, Bare, Continued, Empty, Long}
+use Rattle.line_counts.specs.Counting.{Counting}
+use Rattle.line_counts.specs.Counts.{count_input}
+use Rattle.line_counts.specs.Stamps.{kinds_after}
+use Rattle.line_merges.specs.Instants.{LogReading}
+use Rattle.line_merges.specs.Lines.{log_lines}
+use Rattle.stamps.specs.Buckets.{counting}
+use Rattle.stamps.specs.Changes.{choice_after, first_choice, with_one_more}
+use Rattle.stamps.specs.Choosing.{reads}
+use Rattle.stamps.specs.Tallies.{kinds_of}
+use Rattle.stamps.specs.declared.changes.Anew.{Anew}
+use Rattle.stamps.specs.declared.changes.Choice.{Choice}
+use Rattle.stamps.specs.declared.counts.ClockBuckets.{ClockBuckets}
+use Rattle.stamps.specs.declared.task.Task.{Task}
 use Rattle.stamps.specs.Decisions.{is_earlier, last_of, later_of, one_more, reading, rewritten}
 use Rattle.log_forms.specs.Ends.{opens_bracket, runs_on}
 use Rattle.log_forms.specs.declared.places.Place.TheVariants.{Json}
 use Rattle.log_forms.specs.declared.stamps.Stamp as forms
-use Rattle.stamps.specs.FrontLines.{lead_of}
+use Rattle.stamps.specs.FrontLines.{lead_of, value_lead, with_lead}
+use Rattle.stamps.specs.LogReadings.{reading_by}
 use Rattle.stamps.specs.LineStamps.{byte_order_mark, longest_stamp, stamp_of}
 use Rattle.stamps.specs.Notes.{note_text}
 use Rattle.stamps.specs.Readers.{IsOfOneLine, line_stamp, value_kind}
@@ -39,11 +56,12 @@ use Rattle.stamps.specs.declared.readers.Reader.TheVariants.{Plain}
 use Rattle.stamps.specs.declared.readers.ValueKind.TheVariants.{Quoted}
 use Rattle.stamps.specs.declared.task.Style.{Style}
 use Rattle.stamps.specs.declared.task.Style.TheVariants.{Unix, Utc}
-use Rattle.stamps.specs.declared.task.Action.TheVariants.{Write, Check, Gaps, Since, Until}
+use Rattle.stamps.specs.declared.task.Action.{Action}
+use Rattle.stamps.specs.declared.task.Action.TheVariants.{Write, Check, Gaps, Since, Until, Between}
 
 -- ---- stamps
 
--- a stamp at the start of a text: an RFC 3339 date-time in range, of at most 1,022 bytes, that ends there
+-- a stamp at the start of a text: an RFC 3339 date-time in range, of at most 65,500 bytes, that ends there
 pub record HasStamp (text : List ℕ) (stamp : Stamp) : Type 0 where
   pub spelled : List ℕ
   pub rest : List ℕ
@@ -120,6 +138,34 @@ pub record SinceAndUntilCutInTwo : Type 0 where
   pub since_ends : (reader : Reader) (bound : ℤ) (input : List ℕ) → IsOk (input_run (reading reader (Since bound)) input).end
   pub until_ends : (reader : Reader) (bound : ℤ) (input : List ℕ) → IsOk (input_run (reading reader (Until bound)) input).end
 
+-- ---- `between`
+
+-- the marks that two lists have at the same places
+unfoldable pub both_marks : List Bool → List Bool → List Bool
+both_marks [] others = []
+both_marks (mark ∷ marks) [] = []
+both_marks (mark ∷ marks) (other ∷ others) = (mark && other) ∷ both_marks marks others
+
+-- the text that a task writes for an input
+abbrev pub cut_by : Reader → Action → List ℕ → List ℕ
+cut_by reader action input = (input_run (reading reader action) input).text
+
+-- no line but the first begins with a byte order mark
+abbrev pub HasNoOtherMark : List ℕ → Type 0
+HasNoOtherMark input = list_any (λ line. starts_with nat_eq line byte_order_mark) (drop 1 (lines_of input)) ≡ false
+
+-- `between` writes exactly the lines that both cuts write, `since` by the first instant and `until` by the second one, and to the end.
+-- That is what one cut writes of what the other one writes, if each line is read by itself and no later line begins with a mark
+pub record BetweenIsBothCuts : Type 0 where
+  pub text : (reader : Reader) (from to : ℤ) (input : List ℕ)
+      → (input_run (reading reader (Between from to)) input).text
+      ≡ marked_texts (both_marks (lines_since reader from input) (map not (lines_since reader to input))) (line_texts input)
+  pub ends : (reader : Reader) (from to : ℤ) (input : List ℕ) → IsOk (input_run (reading reader (Between from to)) input).end
+  pub since_of_until : (reader : Reader) (from to : ℤ) (input : List ℕ) → IsOfOneLine reader → HasNoOtherMark input
+      → cut_by reader (Since from) (cut_by reader (Until to) input) ≡ cut_by reader (Between from to) input
+  pub until_of_since : (reader : Reader) (from to : ℤ) (input : List ℕ) → IsOfOneLine reader → HasNoOtherMark input
+      → cut_by reader (Until to) (cut_by reader (Since from) input) ≡ cut_by reader (Between from to) input
+
 -- ---- `utc`, `at` and `unix`
 
 -- the text that is written for a line, whatever the other lines are
@@ -180,6 +226,20 @@ IsReadAgain line stamp lead = (read : Stamp) × (stamp_of (lead.text ++ drop lea
 abbrev pub MergedLinesAreRead : Type 0
 MergedLinesAreRead =
     (mark : ℕ) (line : List ℕ) (stamp : LineStamp) (lead : Lead) → lead_of Utc mark line stamp ≡ Some lead → IsReadAgain line stamp lead
+
+-- ---- `merge --to unix`
+
+-- a line with a new front in UTC is written by the word `unix` with the Unix seconds of the same instant, and the rest stays
+abbrev pub IsWrittenInUnix : List ℕ → List ℕ → LineStamp → Type 0
+IsWrittenInUnix front rest stamp =
+    (read : Stamp) × (stamp_of (front ++ rest) ≡ Ok read)
+    × (line_written Plain Unix false (front ++ rest) ≡ unix_text stamp.instant ++ drop read.length (front ++ rest))
+
+-- so the merge in Unix seconds writes each stamp that the line has in its form
+abbrev pub MergedLinesAreWrittenInUnix : Type 0
+MergedLinesAreWrittenInUnix =
+    (mark : ℕ) (line : List ℕ) (stamp : LineStamp) (lead : Lead) → lead_of Utc mark line stamp ≡ Some lead
+    → IsWrittenInUnix lead.text (drop lead.count line) stamp
 
 -- ---- `check`
 
@@ -254,12 +314,60 @@ pub record GapsTellSilences : Type 0 where
 
 -- ---- JSON
 
--- in place of a value of JSON a date is in quotes and Unix seconds are not, whether the value was a number or a text, whose quotes go with it
+-- in place of a value of JSON a date is in quotes and Unix seconds are not, whether the value was a number or a text, whose quotes go with
+-- it. A merge in one style writes the value as the word of that style does
 pub record ValuesStayValues : Type 0 where
   pub date : (reader : Reader) (style : Style) (line : List ℕ) (stamp : LineStamp) (text : List ℕ) → line_stamp reader None false line ≡ Ok stamp
       → stamp.is_value ≡ true → is_date style ≡ true → text_in style stamp.instant ≡ Some text
       → line_written reader style false line ≡ take stamp.start line ++ (in_quotes text ++ drop (stamp.start + stamp.length) line)
   pub seconds : (reader : Reader) (line : List ℕ) (stamp : LineStamp) → line_stamp reader None false line ≡ Ok stamp → stamp.is_value ≡ true
       → line_written reader Unix false line ≡ take stamp.start line ++ (unix_text stamp.instant ++ drop (stamp.start + stamp.length) line)
+  pub merged : (reader : Reader) (style : Style) (line : List ℕ) (stamp : LineStamp) (lead : Lead) → line_stamp reader None false line ≡ Ok stamp
+      → value_lead style stamp ≡ Some lead → with_lead lead line ≡ line_written reader style false line
   pub quotes : (line : List ℕ) (stamp : forms.Stamp) → value_kind Json line stamp ≡ Quoted
       → (1 ≤ stamp.start) × (slice_get line (stamp.start - 1) ≡ Some 34) × (slice_get line (stamp.start + stamp.length) ≡ Some 34)
+
+-- ---- a form that changes
+
+-- whether fewer than 15 lines in each row have text and no stamp, after so many of them
+unfoldable pub rows_are_short : ℕ → List LineKind → Bool
+rows_are_short row [] = true
+rows_are_short row (Stamped ∷ kinds) = rows_are_short 0 kinds
+rows_are_short row (Bare ∷ kinds) = nat_lt (row + 1) 15 && rows_are_short (row + 1) kinds
+rows_are_short row (Long ∷ kinds) = nat_lt (row + 1) 15 && rows_are_short (row + 1) kinds
+rows_are_short row (Continued ∷ kinds) = rows_are_short row kinds
+rows_are_short row (Empty ∷ kinds) = rows_are_short row kinds
+
+-- the kinds of the lines of an input
+abbrev pub kinds_in : Reader → List ℕ → List LineKind
+kinds_in reader input = kinds_of (lines_of input) (stamps_of reader input)
+
+-- how the lines of an input are counted in its first form alone
+abbrev pub counting_in_one : ClockBuckets → Counting Choice
+counting_in_one buckets = counting (record buckets { anew = None })
+
+-- how the lines of a log of a merge are read in its first form alone
+abbrev pub reading_in_one : Reader → Option Reader → LogReading Choice
+reading_in_one = reading_by None
+
+-- why a reader of this number reads the lines after a line: the line has no stamp, nor have at least 14 others since the last one with a
+-- stamp, and the reader finds one in the beginnings of this line and of one of the others
+pub record IsReason (choice : Choice) (kind : LineKind) (line : List ℕ) (to : ℕ) : Type 0 where
+  pub bare : is_bare kind ≡ true
+  pub row : choice.wait ≤ one_more choice.row
+  pub before : reads to (with_one_more choice).front ≡ true
+  pub here : reads to (take 1024 line) ≡ true
+
+-- an input is read in one form if fewer than 15 of its lines in each row have no stamp: by each word, so that a count has the same rows,
+-- and a merge the same lines. Where another form reads on, there is a reason
+pub record FormsChangeForAReason : Type 0 where
+  pub stays : (task : Task) (input : List ℕ) → rows_are_short 0 (kinds_in task.reader input) ≡ true
+      → input_run task input ≡ input_run (reading task.reader task.action) input
+  pub count_stays : (buckets : ClockBuckets) (is_strict : Bool) (input : List ℕ)
+      → rows_are_short 0 (kinds_after (counting_in_one buckets) first_choice 0 None (lines_of input)) ≡ true
+      → count_input (counting buckets) is_strict input ≡ count_input (counting_in_one buckets) is_strict input
+  pub merge_stays : (anew : Option Anew) (reader : Reader) (other : Option Reader) (log : List ℕ)
+      → rows_are_short 0 (map (λ line. line.kind) (log_lines (reading_in_one reader other) log)) ≡ true
+      → log_lines (reading_by anew reader other) log ≡ log_lines (reading_in_one reader other) log
+  pub reason : (anew : Anew) (choice : Choice) (number to : ℕ) (kind : LineKind) (line : List ℕ)
+      → (choice_after (Some anew) choice number kind line).number ≡ Some to → choice.number ≢ Some to → IsReason choice kind line to

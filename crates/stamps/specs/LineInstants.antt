@@ -1,10 +1,10 @@
 -- The instants of lines, by the last one before them.
-use Rattle.std.specs.Prelude.{ℕ, Bool, List, ℤ, Option, Some, None, Result, Ok, Err, slice_get}
-use Rattle.std.specs.Option.{option_and_then}
+use Rattle.std.specs.Prelude.{ℕ, Bool, List, ℤ, Option, Some, None, Result, Ok, Err}
+use Rattle.std.specs.Option.{option_and_then, option_or}
 use Rattle.plain_times.specs.Sums.{wall_clock_if_any}
-use Rattle.line_merges.specs.Instants.{LogInstants}
 use Rattle.stamps.specs.Readers.{line_stamp}
-use Rattle.stamps.specs.declared.instants.StampInstants.{StampInstants}
+use Rattle.stamps.specs.declared.changes.Anew.{Anew}
+use Rattle.stamps.specs.declared.instants.LogReader.{LogReader}
 use Rattle.stamps.specs.declared.readers.LineRefusal.{LineRefusal}
 use Rattle.stamps.specs.declared.readers.LineStamp.{LineStamp}
 use Rattle.stamps.specs.declared.readers.Reader.{Reader}
@@ -19,15 +19,29 @@ unfoldable pub line_instant : Reader → Option ℤ → Bool → List ℕ → Op
 line_instant reader last is_first line = stamp_instant (line_stamp reader last is_first line)
 
 -- the instant of a line by a last instant that may be out of the range, which then is none
-abbrev pub instant_after : Reader → LogInstants
+abbrev pub instant_after : Reader → Option ℤ → Bool → List ℕ → Option ℤ
 instant_after reader last is_first line = line_instant reader (option_and_then wall_clock_if_any last) is_first line
 
--- the reader that the first lines of a log chose, or else that of the words
-abbrev pub reader_or : Reader → Option (Option Reader) → Reader
-reader_or reader None = reader
-reader_or reader (Some None) = reader
-reader_or reader (Some (Some own)) = own
+-- the instant of a line by a reader, or else by another one, if there is one
+abbrev pub instant_by : Reader → Option Reader → Option ℤ → Bool → List ℕ → Option ℤ
+instant_by reader None last is_first line = instant_after reader last is_first line
+instant_by reader (Some other) last is_first line = option_or (instant_after reader last is_first line) (instant_after other last is_first line)
 
--- the instants of the lines of the log with a number
-abbrev pub log_instant : StampInstants → ℕ → LogInstants
-log_instant instants log = instant_after (reader_or instants.reader (slice_get instants.chosen.items log))
+-- the reader of a log, or else that of the words
+abbrev pub own_or : Reader → Option Reader → Reader
+own_or reader None = reader
+own_or reader (Some own) = own
+
+abbrev pub reader_or : Reader → Option LogReader → Reader
+reader_or reader None = reader
+reader_or reader (Some log) = own_or reader log.chosen.reader
+
+-- how the form of a log is chosen anew, if it is
+abbrev pub anew_of : Option LogReader → Option Anew
+anew_of None = None
+anew_of (Some log) = log.chosen.anew
+
+-- what reads the lines that the first reader does not read, if it is given
+abbrev pub other_of : Option LogReader → Option Reader
+other_of None = None
+other_of (Some log) = log.other

@@ -28,17 +28,17 @@ mark_length false = 0
 
 -- the most bytes of a stamp
 abbrev pub longest_stamp : ℕ
-longest_stamp = 1022
+longest_stamp = 65500
 
--- the most bytes of a line that decide on it: a byte order mark, the longest stamp, and two bytes after it
+-- the most bytes of a line that decide on it: a byte order mark, and the front in which a stamp is looked for
 abbrev pub longest_head : ℕ
-longest_head = 1027
+longest_head = 65536
 
 -- the stamp of an instant, a length and the rest of the line after it
 abbrev pub stamp : ℤ → ℕ → List ℕ → Stamp
 stamp instant count rest = record { instant = instant; length = count; is_zoned = opens_bracket rest }
 
--- whether a date-time of this length ends before the rest of the line, and has at most 1,022 bytes
+-- whether a date-time of this length ends before the rest of the line, and has at most 65,500 bytes
 abbrev pub ends : ℕ → List ℕ → Bool
 ends count rest = not (nat_lt longest_stamp count || runs_on false rest)
 
@@ -52,6 +52,6 @@ abbrev pub front_stamp : List ℕ → Option (Parts × List ℕ) → Result Stam
 front_stamp front None = Err Syntax
 front_stamp front (Some (p, rest)) = let count = length front - length rest in ended_stamp (meaning p) count (drop count front)
 
--- the stamp at the start of a text, which is a date-time of at most 1,022 bytes that ends there, or the error
+-- the stamp at the start of a text, which is a date-time of at most 65,500 bytes that ends there, or the error
 unfoldable pub stamp_of : List ℕ → Result Stamp TextRefusal
-stamp_of text = let front = take 1024 text in front_stamp front (front_at front)
+stamp_of text = let front = take 65533 text in front_stamp front (front_at front)

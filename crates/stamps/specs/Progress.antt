@@ -1,5 +1,5 @@
 -- The output that was sent for an input that arrives in parts, and the faults that may end the work.
-use Rattle.std.specs.Prelude.{◌≡◌, ◌⊎◌, ℕ, ◌≤◌, ◌<◌, Bool, true, false, List, [], ◌++◌, length, Option, Result, Ok, Err, MatchResult, IsOk}
+use Rattle.std.specs.Prelude.{◌≡◌, ◌⊎◌, ℕ, ◌≤◌, ◌<◌, Bool, true, false, List, [], ◌++◌, length, Option, Result, Ok, Err, MatchResult}
 use Rattle.std.specs.Io.KnownBytes.{Appends}
 use Rattle.line_devices.specs.LineParts.{ended_from, rest_from}
 use Rattle.line_devices.specs.Writing.{AppendsBeginning, Sends}
@@ -118,5 +118,5 @@ Ends task base now (Found found) input =
 -- all of the output for an input was written, no line ended the run, and the tally is that of the input
 pub record Completes (task : Task) (base now : Option (List ℕ)) (work : Work) (input : List ℕ) : Type 0 where
   pub written : Appends base now (input_run task input).text
-  pub well : IsOk (input_run task input).end
-  pub tally : work.state.tally ≡ tally_of task.reader input
+  pub end : (input_run task input).end ≡ Ok work.state
+  pub tally : work.state.tally ≡ tally_of task input

@@ -3,7 +3,6 @@ use Rattle.std.specs.Prelude.{◌≡◌, ℕ, ◌+◌, ◌-◌, ◌==◌, Bool, 
 use Rattle.std.specs.Prelude.{Result, Ok, Err, ⊤}
 use Rattle.rfc3339.specs.declared.refusal.TextRefusal.{TextRefusal}
 use Rattle.rfc3339.specs.declared.refusal.TextRefusal.TheVariants as text
-use Rattle.log_forms.specs.Stamps.{stamp_at}
 use Rattle.log_forms.specs.Years.{assumed_after}
 use Rattle.log_forms.specs.declared.places.Place.{Place}
 use Rattle.log_forms.specs.declared.places.Place.TheVariants.{Front, Field, After, Json, Access, Coloured}
@@ -11,6 +10,7 @@ use Rattle.log_forms.specs.declared.stamps.Stamp as forms
 use Rattle.log_forms.specs.declared.stamps.StampRefusal.{StampRefusal}
 use Rattle.log_forms.specs.declared.stamps.StampRefusal.TheVariants as form
 use Rattle.stamps.specs.LineStamps.{has_mark, mark_length, stamp_of}
+use Rattle.stamps.specs.Zoned.{assumed_stamp}
 use Rattle.stamps.specs.declared.decide.Stamp.{Stamp}
 use Rattle.stamps.specs.declared.readers.FormReader.{FormReader}
 use Rattle.stamps.specs.declared.readers.LineRefusal.{LineRefusal}
@@ -51,7 +51,7 @@ is_json Coloured = false
 
 -- the value of JSON that the stamp of a line at a place is
 abbrev pub value_kind : Place → List ℕ → forms.Stamp → ValueKind
-value_kind place line stamp = if is_json place then json_kind (take 1024 line) stamp else Other
+value_kind place line stamp = if is_json place then json_kind (take 65533 line) stamp else Other
 
 -- the stamp of a line with this many bytes before the text that has it: the bytes of the value that it is
 abbrev pub in_line : ℕ → ValueKind → forms.Stamp → LineStamp
@@ -75,7 +75,7 @@ formed_at before place text (Err (form.Part refusal)) = Err (Part refusal)
 
 -- the stamp of a text in a form, at its place: what is assumed follows from the last instant
 abbrev pub form_stamp : FormReader → Option ℤ → List ℕ → Result forms.Stamp StampRefusal
-form_stamp by last text = stamp_at by.form by.place by.text (assumed_after by.assumed last) text
+form_stamp by last text = assumed_stamp by.zone by (assumed_after by.assumed last) text
 
 -- the stamp of a line, in the text after this many bytes
 abbrev pub stamp_behind : Reader → Option ℤ → ℕ → List ℕ → Result LineStamp LineRefusal

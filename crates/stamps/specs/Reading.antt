@@ -27,7 +27,7 @@ use Rattle.stamps.specs.declared.reading.ReadingMisuse.TheVariants as misuse
 use Rattle.stamps.specs.declared.reading.Step.{Step}
 use Rattle.stamps.specs.declared.reading.Step.TheVariants as step
 use Rattle.stamps.specs.declared.task.Style.{Style}
-use Rattle.stamps.specs.declared.task.Style.TheVariants.{Utc, At}
+use Rattle.stamps.specs.declared.task.Style.TheVariants.{Utc, At, Unix}
 
 -- ---- the words
 
@@ -40,8 +40,11 @@ kind_of word =
     else (if bytes_eq word (codes "--offset") then step.Offset
     else (if bytes_eq word (codes "--year") then step.Year
     else (if bytes_eq word (codes "--to") then step.To
+    else (if bytes_eq word (codes "--zone") then step.Zone
+    else (if bytes_eq word (codes "--until") then step.Until
     else (if bytes_eq word (codes "--quiet") then step.Quiet
-    else (if bytes_eq word (codes "--list-forms") then step.List else step.Word)))))))
+    else (if bytes_eq word (codes "--verbose") then step.Verbose
+    else (if bytes_eq word (codes "--list-forms") then step.List else step.Word))))))))))
 
 -- whether the next word is the value of a word of this kind
 abbrev pub is_valued : Step → Bool
@@ -50,6 +53,8 @@ is_valued step.Place = true
 is_valued step.Offset = true
 is_valued step.Year = true
 is_valued step.To = true
+is_valued step.Zone = true
+is_valued step.Until = true
 is_valued _ = false
 
 -- the kind of a word by that of the word before it: an option takes the next word as its value, and after `--` all are files
@@ -63,6 +68,8 @@ twice_of step.Form = misuse.FormTwice
 twice_of step.Place = misuse.PlaceTwice
 twice_of step.Offset = misuse.OffsetTwice
 twice_of step.To = misuse.ToTwice
+twice_of step.Zone = misuse.ZoneTwice
+twice_of step.Until = misuse.UntilTwice
 twice_of _ = misuse.YearTwice
 
 -- ---- their values
@@ -106,7 +113,9 @@ year_asked None = Ok None
 
 -- the style of a merge: UTC, or an offset
 abbrev pub style_asked : List ℕ → Result Style ReadingMisuse
-style_asked word = if bytes_eq word (codes "utc") then Ok Utc else result_map_both At misuse.To (offset_reading_of word)
+style_asked word =
+    if bytes_eq word (codes "utc") then Ok Utc
+    else (if bytes_eq word (codes "unix") then Ok Unix else result_map_both At misuse.To (offset_reading_of word))
 
 -- ---- the reader
 
@@ -145,7 +154,7 @@ year_for form year = if lacks_year form.items then year else None
 abbrev pub whole_reader : Form → Place → List ℕ → Option ℤ → Option ℤ → Result Reader ReadingMisuse
 whole_reader form at text offset year =
     unless_lacking (lack_of (lacks_offset form.items && is_none offset) (lacks_year form.items && is_none year))
-    (Formed (record { form = form; place = at; text = text; assumed = record { offset = offset; year = year_for form year; month = 0 } }))
+    (Formed (record { form = form; place = at; text = text; assumed = record { offset = offset; year = year_for form year; month = 0 }; zone = None }))
 
 -- whether a place is the front of the line
 abbrev pub is_front : Place → Bool
@@ -212,7 +221,11 @@ reading_text misuse.FormTwice = codes "--form is given twice: leave one out"
 reading_text misuse.PlaceTwice = codes "--place is given twice: leave one out"
 reading_text misuse.OffsetTwice = codes "--offset is given twice: leave one out"
 reading_text misuse.YearTwice = codes "--year is given twice: leave one out"
-reading_text (misuse.To Syntax) = codes "the style '' is unknown: write utc, or an offset, as +05:30"
+reading_text (misuse.To Syntax) = codes "the style '' is unknown: write utc, unix, or an offset, as +05:30"
 reading_text (misuse.To (OutOfRange component)) = codes "the offset '' is out of range: write one from -23:59 to +23:59"
-reading_text misuse.ToAlone = codes "--to goes with merge alone: write utc, or at OFFSET, in place of it"
+reading_text misuse.ToAlone = codes "--to goes with merge alone: write utc, unix, or at OFFSET, in place of it"
 reading_text misuse.ToTwice = codes "--to is given twice: leave one out"
+reading_text misuse.ZoneTwice = codes "--zone is given twice: leave one out"
+reading_text misuse.UntilTwice = codes "--until is given twice: leave one out"
+reading_text misuse.ZoneAndOffset = codes "--zone and --offset are given: leave one out"
+reading_text misuse.NoMemory = codes "no memory is left"

@@ -1,23 +1,28 @@
 -- The lines of an input that have no stamp, and what is told of them.
-use Rattle.std.specs.Prelude.{ℕ, ◌==◌, List, [], ◌++◌, map, codes, decimal, if◌then◌else◌, Option, Some, None, Result}
+use Rattle.std.specs.Prelude.{ℕ, ◌==◌, List, [], ◌∷◌, ◌++◌, map, codes, decimal, if◌then◌else◌, Option, Some, None, Result}
 use Rattle.std.specs.List.{zip}
 use Rattle.line_devices.specs.Lines.{lines_of}
 use Rattle.line_devices.specs.StampTallies.{is_poor, tally_of_kinds}
 use Rattle.line_devices.specs.declared.stamp_tallies.LineKind.{LineKind}
 use Rattle.line_devices.specs.declared.stamp_tallies.StampTally.{StampTally}
-use Rattle.stamps.specs.Decisions.{line_kind}
-use Rattle.stamps.specs.Laws.{stamps_of}
+use Rattle.stamps.specs.Decisions.{first_state, line_kind, stamp_after, state_after}
+use Rattle.stamps.specs.declared.decide.State.{State}
 use Rattle.stamps.specs.declared.readers.LineRefusal.{LineRefusal}
 use Rattle.stamps.specs.declared.readers.LineStamp.{LineStamp}
-use Rattle.stamps.specs.declared.readers.Reader.{Reader}
+use Rattle.stamps.specs.declared.task.Task.{Task}
 
 -- the kinds of lines, by their stamps
 abbrev pub kinds_of : List (List ℕ) → List (Result LineStamp LineRefusal) → List LineKind
 kinds_of lines stamps = map (λ line. line_kind line.0 line.1) (zip lines stamps)
 
+-- the stamps of lines, each by the state after the lines before it
+unfoldable pub stamps_from : Task → State → List (List ℕ) → List (Result LineStamp LineRefusal)
+stamps_from task state [] = []
+stamps_from task state (line ∷ lines) = stamp_after task state line ∷ stamps_from task (state_after task state line) lines
+
 -- the tally of an input: its lines, and those of them that have no stamp
-unfoldable pub tally_of : Reader → List ℕ → StampTally
-tally_of reader input = tally_of_kinds (kinds_of (lines_of input) (stamps_of reader input))
+unfoldable pub tally_of : Task → List ℕ → StampTally
+tally_of task input = tally_of_kinds (kinds_of (lines_of input) (stamps_from task (first_state task) (lines_of input)))
 
 -- ---- what is told of it
 
@@ -48,6 +53,15 @@ many_text continued = codes ", and " ++ decimal continued ++ codes " lines" ++ c
 -- the number of lines that continue others
 abbrev pub more_text : ℕ → List ℕ
 more_text continued = if continued == 0 then [] else (if continued == 1 then one_more_text else many_text continued)
+
+-- a long line without a stamp, or the number of several
+abbrev pub long_text : ℕ → ℕ → List ℕ
+long_text count line =
+    if count == 1 then codes "line " ++ decimal line ++ codes " has no stamp in its" else decimal count ++ codes " lines have no stamp" ++ codes " in their"
+
+-- the first of several long lines without a stamp
+abbrev pub long_first_text : ℕ → ℕ → List ℕ
+long_first_text count line = if count == 1 then [] else codes ", the first is line " ++ decimal line
 
 -- the exit status by the tally of an input: 1 if no line has a stamp, or more than half of the lines with text have none
 abbrev pub tally_status : StampTally → ℕ

@@ -1,7 +1,7 @@
 -- Tasks that say something of lines.
 use Rattle.std.specs.Prelude.{Bool, true, false}
 use Rattle.stamps.specs.declared.task.Action.{Action}
-use Rattle.stamps.specs.declared.task.Action.TheVariants.{Write, Check, CheckAll, Gaps, Since, Until}
+use Rattle.stamps.specs.declared.task.Action.TheVariants.{Write, Check, CheckAll, Gaps, Since, Until, Between}
 
 -- whether the task writes notes on lines
 abbrev pub tells : Action → Bool
@@ -11,6 +11,7 @@ tells (CheckAll is_strict) = true
 tells (Gaps limit is_strict) = true
 tells (Since bound) = false
 tells (Until bound) = false
+tells (Between from to) = false
 
 -- whether the task checks lines, and so tells itself of those without a stamp
 abbrev pub checks : Action → Bool
@@ -20,6 +21,7 @@ checks (CheckAll is_strict) = true
 checks (Gaps limit is_strict) = false
 checks (Since bound) = false
 checks (Until bound) = false
+checks (Between from to) = false
 
 -- whether a finding in one file ends the work on all: its line would be missing in the output
 abbrev pub ends_at_finding : Action → Bool
@@ -29,3 +31,4 @@ ends_at_finding (CheckAll is_strict) = false
 ends_at_finding (Gaps limit is_strict) = false
 ends_at_finding (Since bound) = false
 ends_at_finding (Until bound) = false
+ends_at_finding (Between from to) = false

@@ -1,6 +1,6 @@
 -- The reader and the writer while the program reads an input, block by block.
 use Rattle.std.specs.Prelude.{◌≡◌, ℕ, zero, suc, ◌-◌, ◌^◌, ◌<◌, ◌≤◌, ◌⊎◌, true, false, List, [], length, Some, Result, Ok, Err}
-use Rattle.std.specs.Prelude.{IfSome, IsOk}
+use Rattle.std.specs.Prelude.{IfSome}
 use Rattle.std.specs.Io.KnownBytes.{Appends, Consumes}
 use Rattle.line_devices.specs.Device.{Devices}
 use Rattle.line_devices.specs.Writing.{AppendsBeginning}
@@ -22,12 +22,12 @@ pub record GoesOn (task : Task) (first now : Devices) (pending : List ℕ) (work
   pub no_read_failed : now.read_failed ≡ false
   pub no_write_failed : now.write_failed ≡ false
 
--- the input is at its end, its output was written, it has no finding, and the tally is that of it
+-- the input is at its end, its output was written, the state is that after it, it has no finding, and the tally is that of it
 pub record EndsWell (task : Task) (first now : Devices) (work : Work) : Type 0 where
   pub none_left : IfSome first.left (λ _. now.left ≡ Some [])
   pub written : IfSome first.left (λ input. Appends first.written now.written (input_run task input).text)
-  pub well : IfSome first.left (λ input. IsOk (input_run task input).end)
-  pub tally : IfSome first.left (λ input. work.state.tally ≡ tally_of task.reader input)
+  pub end : IfSome first.left (λ input. (input_run task input).end ≡ Ok work.state)
+  pub tally : IfSome first.left (λ input. work.state.tally ≡ tally_of task input)
   pub no_read_failed : now.read_failed ≡ false
   pub no_write_failed : now.write_failed ≡ false
 

@@ -1,6 +1,6 @@
 //! A reader whose first bytes are read ahead, and then read again.
-ghost use Rattle.std.specs.Prelude.{◌≡◌, ◌<◌, ◌≤◌, ◌++◌, false, [], drop, length, min, take, vec_len, OnErr, OnOk};
-ghost use Rattle.std.specs.Io.KnownBytes.{Keeps};
+ghost use Rattle.std.specs.Prelude.{◌≡◌, ◌<◌, ◌≤◌, ◌++◌, false, [], drop, length, min, take, vec_len, Ok, OnErr, OnOk};
+ghost use Rattle.std.specs.Io.KnownBytes.{IsAtEnd, Keeps};
 ghost use Rattle.stamps.specs.Ahead.{LongerBy, has_fault, head_of, inner_of, left_of};
 
 use std::alloc::{AllocError, Global};
@@ -41,6 +41,11 @@ impl<R: Read> Ahead<R> {
         ensures { result.now ≡ inner_of self.now }
     {
         &self.inner
+    }
+
+    /// The reader, which may change.
+    pub fn inner_mut(&mut self) -> &mut R {
+        &mut self.inner
     }
 
     /// The bytes that were read ahead.
@@ -85,6 +90,18 @@ impl<R: Read> Ahead<R> {
         self.served = 0;
     }
 
+    // Counts no more bytes as read again than were read ahead.
+    fn settle(&mut self)
+        ensures within { self.new.served ≤ vec_len self.new.head }
+        ensures head { head_of self.new ≡ head_of self.old }
+        ensures inner { self.new.inner ≡ self.old.inner }
+        ensures fault { self.new.fault ≡ self.old.fault }
+    {
+        if self.served > self.head.len() {
+            self.served = self.head.len();
+        }
+    }
+
     // Adds bytes to those that were read ahead.
     fn keep(&mut self, bytes: &[u8]) -> Result<(), AllocError>
         requires within { self.old.served ≤ vec_len self.old.head }
@@ -102,10 +119,10 @@ impl<R: Read> Ahead<R> {
         ensures left { OnOk result (Keeps (left_of R.remaining self.old)
             (left_of R.remaining self.new)) }
         ensures head { LongerBy result (head_of self.old) (head_of self.new) }
+        ensures end { result ≡ Ok 0 → has_fault self.new ≡ false
+            → IsAtEnd (R.remaining (inner_of self.new)) }
     {
-        if self.served > self.head.len() {
-            return Ok(0);
-        }
+        self.settle();
         let mut block = [0u8; MOST_AHEAD];
         match self.inner.read(&mut block) {
             Ok(count) => {

@@ -1,17 +1,25 @@
 //! The request that the words of the command line make.
-ghost use Rattle.std.specs.Prelude.{◌≡◌, map};
+ghost use Rattle.std.specs.Prelude.{◌≡◌, ◌≤◌, length, map};
 ghost use Rattle.std.specs.Str.{bytes_eq};
 ghost use Rattle.offset_times.specs.Local.{instant_of};
 ghost use Rattle.rfc3339.specs.Reading.{reading_as};
-ghost use Rattle.stamps.specs.Arguments.{only_instant, asked_alone, at_offset, bound_of, bound_task, check_task, gaps_task, is_finer, misuse_text};
+ghost use Rattle.stamps.specs.Arguments.{asked_alone, at_offset, back_asked, between_cut, between_from, bound_asked, check_task, cut_asked, gaps_task};
+ghost use Rattle.stamps.specs.Arguments.{is_finer, lacking_of, last_bound, local_bound, local_text, misuse_text, only_bound, other_bound};
+ghost use Rattle.stamps.specs.Arguments.{since_cut, since_rest};
 ghost use Rattle.stamps.specs.Arguments.{count_at, count_by, count_in, count_request, request_of, strictness, task_asked, unit_of, write_task};
 
+use crate::bounds::{Bound, Cut};
 use crate::counts::{Clock, Unit};
 use crate::durations::duration_of;
+use crate::reading::behind;
 use crate::task::{Action, Style};
 use calendar_values::{SignedDuration, UtcOffset};
+use line_devices::table::Table;
 use rfc3339::{Rfc3339, TextRefusal, parse_rfc3339_offset};
 use utc_times::UtcDateTime;
+
+// The most bytes of a date-time without an offset: nine digits of a fraction.
+const MOST_LOCAL: usize = 29;
 
 /// The request of the words of the command line.
 #[derive(Clone, Copy, Debug)]
@@ -22,6 +30,8 @@ pub enum Request {
     Version,
     /// Work on lines.
     Work(Action),
+    /// A cut of the lines.
+    Cut(Cut),
     /// Merge files. If it is strict, a line that is earlier than the one before it in its file ends
     /// the run.
     Merge(bool),
@@ -41,12 +51,14 @@ pub enum Misuse {
     NoOffset,
     /// No offset follows `at`.
     Offset(TextRefusal),
-    /// No instant follows `since` or `until`.
+    /// An instant is missing after `since`, `until`, `between` or `--until`.
     NoInstant,
-    /// An invalid date-time follows `since` or `until`.
+    /// A bound is an invalid date-time.
     Instant(TextRefusal),
-    /// The fraction after `since` or `until` has a digit past the ninth that is not 0.
+    /// The fraction of a bound has a digit past the ninth that is not 0.
     TooFine,
+    /// A bound counts back by an invalid duration.
+    Back,
     /// No unit follows `count`.
     NoUnit,
     /// An unknown unit follows `count`.
@@ -79,7 +91,7 @@ pub fn request_of(words: &[&[u8]]) -> Result<Request, Misuse>
     if is(word, "count") {
         return count_request(rest);
     }
-    Ok(Request::Work(task_asked(word, rest)?))
+    task_asked(word, rest)
 }
 
 // A count: its unit, and perhaps an offset.
@@ -159,21 +171,21 @@ fn asked_alone(request: Request, words: &[&[u8]]) -> Result<Request, Misuse>
 
 // The task that words ask for, the first of them apart.
 #[tactic(auto, unfolding(crate::specs::Arguments::task_asked))]
-fn task_asked(word: &[u8], words: &[&[u8]]) -> Result<Action, Misuse>
+fn task_asked(word: &[u8], words: &[&[u8]]) -> Result<Request, Misuse>
     ensures { result ≡ task_asked word.now (map (λ word. word.now) words.now) }
 {
     if is(word, "utc") {
-        write_task(Style::Utc, words)
+        Ok(Request::Work(write_task(Style::Utc, words)?))
     } else if is(word, "unix") {
-        write_task(Style::Unix, words)
+        Ok(Request::Work(write_task(Style::Unix, words)?))
     } else if is(word, "at") {
-        at_offset(words)
+        Ok(Request::Work(at_offset(words)?))
     } else if is(word, "check") {
-        check_task(words)
+        Ok(Request::Work(check_task(words)?))
     } else if is(word, "gaps") {
-        gaps_task(words)
+        Ok(Request::Work(gaps_task(words)?))
     } else {
-        bound_task(word, words)
+        Ok(Request::Cut(cut_asked(word, words)?))
     }
 }
 
@@ -208,18 +220,58 @@ fn gaps_task(words: &[&[u8]]) -> Result<Action, Misuse>
     Ok(Action::Gaps(limit, strictness(rest)?))
 }
 
-// A task that an instant bounds.
-#[tactic(auto, unfolding(crate::specs::Arguments::bound_task))]
-fn bound_task(word: &[u8], words: &[&[u8]]) -> Result<Action, Misuse>
-    ensures { result ≡ bound_task word.now (map (λ word. word.now) words.now) }
+// A cut of the lines, by its first word and the rest.
+#[tactic(auto, unfolding(crate::specs::Arguments::cut_asked))]
+fn cut_asked(word: &[u8], words: &[&[u8]]) -> Result<Cut, Misuse>
+    ensures { result ≡ cut_asked word.now (map (λ word. word.now) words.now) }
 {
     if is(word, "since") {
-        Ok(Action::Since(bound_of(words)?))
+        since_cut(words)
     } else if is(word, "until") {
-        Ok(Action::Until(bound_of(words)?))
+        Ok(Cut::Until(last_bound(words)?))
+    } else if is(word, "between") {
+        between_cut(words)
     } else {
         Err(Misuse::UnknownWord)
     }
+}
+
+// The cut of `since`: with `--until` it has two bounds.
+fn since_cut(words: &[&[u8]]) -> Result<Cut, Misuse>
+    ensures { result ≡ since_cut (map (λ word. word.now) words.now) }
+{
+    let Some((text, rest)) = words.split_first() else {
+        return Err(Misuse::NoInstant);
+    };
+    since_rest(bound_asked(text)?, rest)
+}
+
+// The cut since a bound, up to that of the words if there are any.
+fn since_rest(from: Bound, words: &[&[u8]]) -> Result<Cut, Misuse>
+    ensures { result ≡ since_rest from (map (λ word. word.now) words.now) }
+{
+    match words.split_first() {
+        None => Ok(Cut::Since(from)),
+        Some((word, rest)) if is(word, "--until") => between_from(from, rest),
+        Some(_) => Err(Misuse::Extra),
+    }
+}
+
+// The cut of `between`.
+fn between_cut(words: &[&[u8]]) -> Result<Cut, Misuse>
+    ensures { result ≡ between_cut (map (λ word. word.now) words.now) }
+{
+    let Some((text, rest)) = words.split_first() else {
+        return Err(Misuse::NoInstant);
+    };
+    between_from(bound_asked(text)?, rest)
+}
+
+// The cut between a bound and that of the words.
+fn between_from(from: Bound, words: &[&[u8]]) -> Result<Cut, Misuse>
+    ensures { result ≡ between_from from (map (λ word. word.now) words.now) }
+{
+    Ok(Cut::Between(from, last_bound(words)?))
 }
 
 // Stamps in a style.
@@ -256,17 +308,86 @@ fn at_offset(words: &[&[u8]]) -> Result<Action, Misuse>
     }
 }
 
-// The instant that the lines are compared with.
-fn bound_of(words: &[&[u8]]) -> Result<UtcDateTime, Misuse>
-    ensures { result ≡ bound_of (map (λ word. word.now) words.now) }
+// The last bound of a cut, which no word follows.
+fn last_bound(words: &[&[u8]]) -> Result<Bound, Misuse>
+    ensures { result ≡ last_bound (map (λ word. word.now) words.now) }
 {
     let Some((text, rest)) = words.split_first() else {
         return Err(Misuse::NoInstant);
     };
+    only_bound(bound_asked(text)?, rest)
+}
+
+/// The bound of a word: a date-time that is not finer than a nanosecond, a date, or a duration back
+/// from the present instant or from the last stamp.
+pub fn bound_asked(text: &[u8]) -> Result<Bound, Misuse>
+    ensures { result ≡ bound_asked text.now }
+{
     match instant_of_text(text) {
         Ok(_) if is_finer(text) => Err(Misuse::TooFine),
-        Ok(instant) => only_instant(instant, rest),
+        Ok(instant) => Ok(Bound::Exact(instant)),
+        Err(TextRefusal::Syntax) => other_bound(text),
         Err(refusal) => Err(Misuse::Instant(refusal)),
+    }
+}
+
+// The bound of a word that is no date-time with an offset.
+#[tactic(auto, unfolding(crate::specs::Arguments::other_bound))]
+fn other_bound(text: &[u8]) -> Result<Bound, Misuse>
+    ensures { result ≡ other_bound text.now }
+{
+    if text.starts_with(b"last-") {
+        return Ok(Bound::BeforeLast(back_asked(behind(text, 5))?));
+    }
+    if text.starts_with(b"-") {
+        return Ok(Bound::BeforeNow(back_asked(behind(text, 1))?));
+    }
+    local_bound(text)
+}
+
+// The duration by which a bound counts back.
+fn back_asked(text: &[u8]) -> Result<SignedDuration, Misuse>
+    ensures { result ≡ back_asked text.now }
+{
+    match duration_of(text) {
+        Some(seconds) => Ok(SignedDuration::seconds(seconds as i64)),
+        None => Err(Misuse::Back),
+    }
+}
+
+// The bound of a date, or of a date-time without an offset: what its instant would be in UTC.
+fn local_bound(text: &[u8]) -> Result<Bound, Misuse>
+    ensures { result ≡ local_bound text.now }
+{
+    if text.len() > MOST_LOCAL {
+        return Err(Misuse::Instant(TextRefusal::Syntax));
+    }
+    match local_clock(text) {
+        Ok(wall) => Ok(Bound::Local(wall)),
+        Err(refusal) => Err(Misuse::Instant(refusal)),
+    }
+}
+
+// The wall clock of a text of at most 29 bytes.
+fn local_clock(text: &[u8]) -> Result<UtcDateTime, TextRefusal>
+    requires { length text.now ≤ 29 }
+    ensures { result ≡ reading_as instant_of (local_text text.now) }
+{
+    let mut whole: Table<u8, 40> = Table::new(0);
+    whole.push_all(text);
+    whole.push_all(lacking_of(text.len()));
+    instant_of_text(whole.items())
+}
+
+// What a text of so many bytes lacks to be a date-time in UTC.
+fn lacking_of(count: usize) -> &'static [u8]
+    ensures value { result.now ≡ lacking_of count }
+    ensures short { length result.now ≤ 10 }
+{
+    match count {
+        10 => b"T00:00:00Z",
+        16 => b":00Z",
+        _ => b"Z",
     }
 }
 
@@ -289,12 +410,12 @@ fn is_finer(text: &[u8]) -> bool
     fraction.skip(9).any(|digit| *digit != b'0')
 }
 
-// An instant that no word follows.
-fn only_instant(instant: UtcDateTime, words: &[&[u8]]) -> Result<UtcDateTime, Misuse>
-    ensures { result ≡ only_instant instant (map (λ word. word.now) words.now) }
+// A bound that no word follows.
+fn only_bound(bound: Bound, words: &[&[u8]]) -> Result<Bound, Misuse>
+    ensures { result ≡ only_bound bound (map (λ word. word.now) words.now) }
 {
     if words.is_empty() {
-        Ok(instant)
+        Ok(bound)
     } else {
         Err(Misuse::Extra)
     }
@@ -314,9 +435,11 @@ pub fn misuse_line(misuse: Misuse) -> &'static str
             "the offset '' is out of range: write one from -23:59 to +23:59",
         Misuse::NoInstant => "the bound is missing: add a date-time, as 2024-02-29T12:00:00Z",
         Misuse::Instant(TextRefusal::Syntax) =>
-            "the bound '' has another form: write a date-time, as 2024-02-29T12:00:00Z",
+            "the bound '' is no instant: write a date-time, as 2024-02-29T12:00:00Z, a date, -1h or last-15m",
         Misuse::Instant(TextRefusal::OutOfRange(_)) =>
             "the bound '' has a part that is out of range: write a date-time of the calendar",
+        Misuse::Back =>
+            "the bound '' has another duration: write it as -1h, back from now, or last-15m, from the last stamp",
         Misuse::TooFine =>
             "the bound '' has more than nine digits of a fraction: write nine at most, or 0 for each digit past the ninth",
         Misuse::NoUnit => "count has no unit: add minute, hour or day",

@@ -1,7 +1,7 @@
 //! The reader that the first lines of a log choose.
 ghost use Rattle.std.specs.Prelude.{◌≡◌, ◌+◌, ◌≤◌, IfOk, length, option_map};
 ghost use Rattle.log_forms.specs.Choices.{reader_form, reader_place};
-ghost use Rattle.stamps.specs.Choosing.{both_read, chosen_reader, is_plain, named_reader, reads, stamp_by};
+ghost use Rattle.stamps.specs.Choosing.{both_read, chosen_by_two, chosen_reader, chosen_with, is_plain, named_reader, reads, stamp_by};
 
 use crate::readers::{PlaceText, Reader};
 use crate::reading::{
@@ -17,9 +17,16 @@ use log_forms::{
 pub fn both_read(first: &[u8], second: &[u8]) -> bool
     ensures { result ≡ both_read first.now second.now }
 {
+    chosen_by_two(first, second).is_some()
+}
+
+/// The number of the reader that two lines choose, if it reads a stamp in both.
+pub fn chosen_by_two(first: &[u8], second: &[u8]) -> Option<usize>
+    ensures { result ≡ chosen_by_two first.now second.now }
+{
     match choose(&[first, second]) {
-        Some(number) => reads(number, first) && reads(number, second),
-        None => false,
+        Some(number) if reads(number, first) && reads(number, second) => Some(number),
+        _ => None,
     }
 }
 
@@ -65,9 +72,20 @@ pub fn chosen_reader(
     ensures { result ≡ chosen_reader number (option_map (λ word. word.now) offset.entry)
         (option_map (λ word. word.now) year.entry) }
 {
-    let (place, text) = place_text(reader_place(number), reader_key(number).as_bytes())?;
     let offset = offset_asked(offset)?;
-    let year = year_asked(year)?;
+    chosen_with(number, offset, year_asked(year)?)
+}
+
+/// The reader of the form and the place of this number, with an offset and a year, as far as they
+/// are given.
+pub fn chosen_with(
+    number: usize,
+    offset: Option<UtcOffset>,
+    year: Option<i32>,
+) -> Result<Reader, ReadingMisuse>
+    ensures { result ≡ chosen_with number offset year }
+{
+    let (place, text) = place_text(reader_place(number), reader_key(number).as_bytes())?;
     named_reader(reader_form(number), place, text, offset, year)
 }
 

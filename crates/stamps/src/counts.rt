@@ -9,20 +9,24 @@ ghost use Rattle.stamps.specs.Styles.{text_in};
 ghost use Rattle.stamps.specs.declared.task.Style.TheVariants.{At};
 ghost use Rattle.offset_times.specs.Local.{local_multiple_below};
 
+use crate::changes::{Anew, Choice};
 use crate::files::is_compressed;
 use crate::finding::{Cause, Finding};
-use crate::first_lines::{Given, reader_chosen};
+use crate::first_lines::{Given, reader_chosen, say_changes};
 use crate::inputs::print_heading;
-use crate::readers::{Reader, line_stamp};
+use crate::instants::Chosen;
+use crate::readers::{Reader, line_stamp, plain_stamp};
 use crate::sources::{FAILED, Input, clear_progress, say, say_compressed, say_unwritten};
 use crate::style::text_in;
 use crate::tallies::tell_tally;
 use crate::task::Style;
+use crate::watches::{tell_clocks, watch_input};
 use calendar_values::{SignedDuration, Text, UtcOffset};
 use line_counts::buckets::{Buckets, steps_between};
 use line_counts::counts::count;
 use line_counts::tallies::{CountFault, Tally};
 use line_devices::devices::Device;
+use line_devices::stamp_tallies::LineKind;
 use offset_times::{OffsetDateTime, ToOffset};
 use rfc3339::to_unix_nanos;
 use utc_times::UtcDateTime;
@@ -59,21 +63,39 @@ pub struct ClockBuckets {
     pub shows_all: bool,
     /// How stamps are read.
     pub reader: Reader,
+    /// How their form is chosen anew where it changes, unless words name it.
+    pub anew: Option<Anew>,
 }
 
 impl Buckets for ClockBuckets {
     ghost use Rattle.stamps.specs.Buckets.{counting};
-    ghost use Rattle.stamps.specs.BucketLemmas.{counting-by_head};
+    ghost use Rattle.stamps.specs.BucketLemmas.{counting-by_head, counting-remembers_head};
+
+    type Memory = Choice;
 
     ghost counting = { counting };
 
+    fn first_memory(&self) -> Choice {
+        Choice::new()
+    }
+
     fn instant_of(
         &self,
+        memory: &Choice,
         last: Option<UtcDateTime>,
         is_first: bool,
         line: &[u8],
     ) -> Option<UtcDateTime> {
-        crate::counts::line_instant(&self.reader, last, is_first, line)
+        crate::counts::line_instant(
+            memory.reader(&self.anew, &self.reader),
+            last,
+            is_first,
+            line,
+        )
+    }
+
+    fn remember(&self, memory: &mut Choice, number: u64, kind: LineKind, line: &[u8]) {
+        memory.take(&self.anew, number, kind, line);
     }
 
     fn bucket_of(&self, at: UtcDateTime) -> Option<UtcDateTime> {
@@ -101,6 +123,8 @@ impl Buckets for ClockBuckets {
     }
 
     ghost by_head = { counting-by_head };
+
+    ghost remembers_head = { counting-remembers_head };
 }
 
 // The instant of a line, if it has a stamp, by the last one before it.
@@ -113,6 +137,12 @@ fn line_instant(
 ) -> Option<UtcDateTime>
     ensures { result ≡ line_instant reader.now last is_first line.now }
 {
+    if let Reader::Plain = reader {
+        return match plain_stamp(reader, is_first, line) {
+            Some(stamp) => Some(stamp.instant),
+            None => None,
+        };
+    }
     match line_stamp(reader, last, is_first, line) {
         Ok(stamp) => Some(stamp.instant),
         Err(_) => None,
@@ -267,34 +297,36 @@ fn run_input(
     let Some(mut input) = Input::open(rt, name, true) else {
         return FAILED;
     };
-    let own = match reader_chosen(rt, given, &buckets.reader, said, &mut input) {
-        Ok(own) => own,
+    let chosen = match reader_chosen(rt, given, &buckets.reader, said, &mut input) {
+        Ok(chosen) => chosen,
         Err(status) => return status,
     };
-    let other = match own {
-        Some(reader) => Some(ClockBuckets {
-            clock: buckets.clock,
-            shows_all: buckets.shows_all,
-            reader,
-        }),
-        None => None,
-    };
+    let other = own_buckets(buckets, chosen);
     let buckets = match &other {
         Some(other) => other,
         None => buckets,
     };
     let shows_progress = input.inner().shows_progress();
     let mut writer = Device::new(rt.stdout());
-    let ended = count(buckets, is_strict, &mut Device::new(input), &mut writer);
+    if watch_input(rt.alloc(), &mut input, &buckets.reader, buckets.anew).is_err() {
+        say(rt, said, "no memory is left");
+        return FAILED;
+    }
+    let mut source = Device::new(input);
+    let ended = count(buckets, is_strict, &mut source, &mut writer);
     if shows_progress {
         clear_progress(rt);
     }
     match &ended {
         Ok(tally) => {
+            if !given.is_quiet {
+                say_changes(rt, said, &tally.memory);
+            }
             if let Some(line) = tally.back {
                 say_line(rt, said, line, Cause::Earlier);
             }
             let _ = tell_tally(rt, said, &tally.stamps, given.is_quiet);
+            tell_clocks(rt, said, given, source.inner().inner().clocks());
         }
         Err(CountFault::Back(line)) => say_line(rt, said, *line, Cause::Earlier),
         Err(CountFault::Missing(line)) => say_line(rt, said, *line, Cause::NoInstant),
@@ -304,6 +336,21 @@ fn run_input(
     count_status(&ended)
 }
 
+// The buckets of an input that has a reader of its own, or whose form is chosen anew.
+fn own_buckets(buckets: &ClockBuckets, chosen: Chosen) -> Option<ClockBuckets> {
+    let reader = match (chosen.reader, &chosen.anew) {
+        (Some(reader), _) => reader,
+        (None, Some(_)) => Reader::Plain,
+        (None, None) => return None,
+    };
+    Some(ClockBuckets {
+        clock: buckets.clock,
+        shows_all: buckets.shows_all,
+        reader,
+        anew: chosen.anew,
+    })
+}
+
 // Says what is at fault with a line.
 fn say_line(rt: &HostRuntime, name: &str, line: u64, cause: Cause) {
     say(rt, name, Finding::Line(line, cause).text().as_str());
@@ -311,7 +358,7 @@ fn say_line(rt: &HostRuntime, name: &str, line: u64, cause: Cause) {
 
 /// The exit status of a count: 0 at the end of the input, 1 for a line that goes back or ends the
 /// count, and where too many lines have no stamp, and 2 after a failed read or write.
-fn count_status(ended: &Result<Tally, CountFault>) -> u8
+fn count_status(ended: &Result<Tally<Choice>, CountFault>) -> u8
     ensures { result ≡ count_status ended.now }
 {
     match ended {

@@ -5,17 +5,20 @@ ghost use Rattle.offset_times.specs.Local.{instant_of};
 ghost use Rattle.rfc3339.specs.Front.{front_meaning};
 ghost use Rattle.rfc3339.specs.Reading.{front_at};
 ghost use Rattle.rfc3339.specs.declared.refusal.TextRefusal.TheVariants.{Syntax};
+ghost use Rattle.stamps.specs.Changes.{choice_after};
 ghost use Rattle.stamps.specs.Decisions.{as_it_is, cause_of, check_line, decision_by, finding_at_end, first_state, gap_after, gap_line};
 ghost use Rattle.stamps.specs.Decisions.{as_note, going_on, stop_if};
-ghost use Rattle.stamps.specs.Decisions.{goes_on, is_earlier, is_first, last_of, later_of, latest_of, line_kind, rewritten, state_after, state_by};
+ghost use Rattle.stamps.specs.Decisions.{is_earlier, later_of, line_kind, rewritten, stamp_after, state_after, state_by};
 ghost use Rattle.stamps.specs.LineInstants.{stamp_instant};
 ghost use Rattle.stamps.specs.LineStamps.{ends, front_stamp, has_mark, stamp, stamp_of};
+ghost use Rattle.line_devices.specs.declared.stamp_tallies.LineKind.TheVariants.{Stamped};
 ghost use Rattle.log_forms.specs.Ends.{runs_on};
 ghost use Rattle.stamps.specs.Readers.{line_stamp, plain_at};
 ghost use Rattle.stamps.specs.Styles.{text_in};
 ghost use Rattle.stamps.specs.declared.decide.Decision.TheVariants.{Keep};
 ghost use Rattle.stamps.specs.declared.decide.State.{State};
 
+use crate::changes::{Anew, Choice};
 use crate::finding::{Cause, Finding};
 use crate::notes::Note;
 use crate::readers::{LineRefusal, LineStamp, line_stamp};
@@ -23,21 +26,15 @@ use crate::reading::behind;
 use crate::style::stamp_text;
 use crate::task::{Action, Style, Task};
 use calendar_values::{SignedDuration, Text};
-use line_devices::stamp_tallies::{StampTally, kind_of};
-use log_forms::{opens_bracket, runs_on};
+use line_devices::stamp_tallies::{LONGEST_STAMP, StampTally, kind_of};
+use log_forms::{LONGEST_FRONT, opens_bracket, runs_on};
 use offset_times::OffsetDateTime;
 use rfc3339::{TextRefusal, parse_rfc3339_front, syntax_fault};
 use utc_times::UtcDateTime;
 
-/// The most bytes of a stamp.
-pub const LONGEST_STAMP: usize = 1_022;
-
-/// The most bytes of a line that decide what becomes of it: a byte order mark, the longest stamp,
-/// and two bytes more.
-pub const LONGEST_HEAD: usize = 1_027;
-
-// The most bytes in which a stamp is looked for.
-const LONGEST_FRONT: usize = 1_024;
+/// The most bytes of a line that decide what becomes of it: a byte order mark, and the front in
+/// which a stamp is looked for.
+pub const LONGEST_HEAD: usize = 65_536;
 
 // The byte order mark of UTF-8.
 const BYTE_ORDER_MARK: [u8; 3] = [0xEF, 0xBB, 0xBF];
@@ -54,7 +51,7 @@ pub struct Stamp {
 }
 
 /// The state after the lines before.
-#[derive(Clone, Copy, Debug)]
+#[derive(Drop)]
 pub struct State {
     /// Their number, at most 2^64 - 1.
     pub lines: u64,
@@ -66,6 +63,8 @@ pub struct State {
     pub goes_on: bool,
     /// How many of them have no stamp.
     pub tally: StampTally,
+    /// The reader of the next line.
+    pub choice: Choice,
 }
 
 /// The decision on a line.
@@ -92,6 +91,7 @@ pub fn first_state(task: &Task) -> State
         latest: None,
         goes_on: matches!(task.action, Action::Until(_)),
         tally: StampTally::new(),
+        choice: Choice::new(),
     }
 }
 
@@ -99,12 +99,12 @@ pub fn first_state(task: &Task) -> State
 #[tactic(auto, unfolding(crate::specs::Decisions::state_after))]
 #[inline(always)]
 pub fn read_stamp(task: &Task, state: &mut State, line: &[u8]) -> Result<LineStamp, LineRefusal>
-    ensures stamp { result ≡ line_stamp task.now.reader state.old.last
-        (is_first state.old) line.now }
+    ensures stamp { result ≡ stamp_after task.now state.old line.now }
     ensures state { state.new ≡ state_after task.now state.old line.now }
 {
-    let stamp = line_stamp(&task.reader, state.last, state.lines == 0, line);
-    update(&task.action, state, line, &stamp);
+    let reader = state.choice.reader(&task.anew, &task.reader);
+    let stamp = line_stamp(reader, state.last, state.lines == 0, line);
+    update(task, state, line, &stamp);
     stamp
 }
 
@@ -112,9 +112,9 @@ pub fn read_stamp(task: &Task, state: &mut State, line: &[u8]) -> Result<LineSta
 /// keeps the line with the text in that style, if there is one.
 #[inline(always)]
 pub fn style_of<'a>(action: &'a Action, stamp: &LineStamp) -> Option<&'a Style>
-    ensures { IfSome result (λ style. (before after : State) (text : List ℕ)
+    ensures { IfSome result (λ style. (last latest : Option ℤ) (after : State) (text : List ℕ)
         → text_in style.now stamp.now.instant ≡ Some text
-        → decision_by action.now before after (Ok stamp.now)
+        → decision_by action.now last latest after (Ok stamp.now)
         ≡ Keep stamp.now.start text stamp.now.length) }
 {
     match action {
@@ -145,79 +145,85 @@ pub(crate) fn has_mark(is_first: bool, line: &[u8]) -> bool
     is_first && line.starts_with(&BYTE_ORDER_MARK)
 }
 
-/// The decision on a line with this stamp, by the states before and after it.
+/// The decision on a line with this stamp, by the last and the latest instant before it, and by the
+/// state after it.
 #[inline(always)]
 pub fn decision_by(
     action: &Action,
-    before: &State,
+    last: Option<UtcDateTime>,
+    latest: Option<UtcDateTime>,
     after: &State,
     stamp: &Result<LineStamp, LineRefusal>,
 ) -> Decision
-    ensures { result ≡ decision_by action.now before.now after.now stamp.now }
+    ensures { result ≡ decision_by action.now last latest after.now stamp.now }
 {
     match action {
         Action::Write(style, is_strict) => rewritten(style, *is_strict, after.lines, stamp),
-        Action::Check(is_strict) => check_line(*is_strict, after.lines, before.last, stamp),
-        Action::CheckAll(is_strict) => {
-            as_note(check_line(*is_strict, after.lines, before.last, stamp))
-        }
-        Action::Gaps(limit, is_strict) => {
-            gap_line(*limit, *is_strict, after.lines, before.latest, stamp)
-        }
-        Action::Since(_) | Action::Until(_) => going_on(after.goes_on),
+        Action::Check(is_strict) => check_line(*is_strict, after.lines, last, stamp),
+        Action::CheckAll(is_strict) => as_note(check_line(*is_strict, after.lines, last, stamp)),
+        Action::Gaps(limit, is_strict) => gap_line(*limit, *is_strict, after.lines, latest, stamp),
+        Action::Since(_) | Action::Until(_) | Action::Between(_, _) => going_on(after.goes_on),
     }
 }
 
-// Brings the state up to a line with this stamp. Its tally changes in place.
+// Brings the state up to a line with this stamp, or without one.
+#[tactic(auto, using(crate::proofs::StampedLemmas::without_stamp))]
 #[inline(always)]
-fn update(action: &Action, state: &mut State, line: &[u8], stamp: &Result<LineStamp, LineRefusal>)
+fn update(task: &Task, state: &mut State, line: &[u8], stamp: &Result<LineStamp, LineRefusal>)
     ensures { state.new
-        ≡ state_by action.now state.old (line_kind line.now stamp.now) stamp.now }
+        ≡ state_by task.now state.old line.now (line_kind line.now stamp.now) stamp.now }
 {
+    match stamp {
+        Ok(stamp) => take_stamp(task, state, stamp),
+        Err(_) => {
+            state.lines = state.lines.saturating_add(1);
+            take_without_stamp(
+                &task.anew,
+                &mut state.tally,
+                &mut state.choice,
+                state.lines,
+                line,
+            );
+        }
+    }
+}
+
+/// Brings the state up to a line with this stamp. Its tally changes in place.
+#[inline(always)]
+pub fn take_stamp(task: &Task, state: &mut State, stamp: &LineStamp)
+    ensures { (line : List ℕ) → state.new
+        ≡ state_by task.now state.old line Stamped (Ok stamp.now) }
+{
+    let at = stamp.instant;
     state.lines = state.lines.saturating_add(1);
-    state.last = last_of(state.last, stamp);
-    if let Action::Gaps(_, _) = action {
-        state.latest = latest_of(action, state.latest, stamp);
-    }
-    state.goes_on = goes_on(action, state.goes_on, stamp);
-    match stamp {
-        Ok(_) => state.tally.texts = state.tally.texts.saturating_add(1),
-        Err(_) => state.tally = without_stamp(state.tally, state.lines, line),
+    state.last = Some(at);
+    state.tally.texts = state.tally.texts.saturating_add(1);
+    state.choice.row = 0;
+    match &task.action {
+        Action::Write(_, _) | Action::Check(_) | Action::CheckAll(_) => {}
+        Action::Gaps(_, _) => state.latest = Some(later_of(state.latest, at)),
+        Action::Since(bound) => state.goes_on = !(at < *bound),
+        Action::Until(bound) => state.goes_on = at < *bound,
+        Action::Between(from, to) => state.goes_on = !(at < *from) && at < *to,
     }
 }
 
-// The tally after a line of this number without a stamp.
+// Brings the tally and the choice up to a line of this number without a stamp.
 #[inline(never)]
-fn without_stamp(tally: StampTally, number: u64, line: &[u8]) -> StampTally
-    ensures { result ≡ tally_after tally number (kind_of line.now false) }
+fn take_without_stamp(
+    anew: &Option<Anew>,
+    tally: &mut StampTally,
+    choice: &mut Choice,
+    number: u64,
+    line: &[u8],
+)
+    ensures tally { tally.new ≡ tally_after tally.old number (kind_of line.now false) }
+    ensures choice { choice.new
+        ≡ choice_after anew.now choice.old number (kind_of line.now false) line.now }
 {
-    tally.after(number, kind_of(line, false))
-}
-
-// The last instant.
-#[inline(always)]
-fn last_of(last: Option<UtcDateTime>, stamp: &Result<LineStamp, LineRefusal>) -> Option<UtcDateTime>
-    ensures { result ≡ last_of last stamp.now }
-{
-    match stamp {
-        Ok(stamp) => Some(stamp.instant),
-        Err(_) => last,
-    }
-}
-
-// The latest instant, where the task asks for gaps.
-#[inline(always)]
-fn latest_of(
-    action: &Action,
-    latest: Option<UtcDateTime>,
-    stamp: &Result<LineStamp, LineRefusal>,
-) -> Option<UtcDateTime>
-    ensures { result ≡ latest_of action.now latest stamp.now }
-{
-    match (action, stamp) {
-        (Action::Gaps(_, _), Ok(stamp)) => Some(later_of(latest, stamp.instant)),
-        _ => latest,
-    }
+    let kind = kind_of(line, false);
+    *tally = tally.after(number, kind);
+    choice.take(anew, number, kind, line);
 }
 
 // The later of two instants, of which there may be one.
@@ -243,7 +249,7 @@ pub(crate) fn stamp_of(text: &[u8]) -> Result<Stamp, TextRefusal>
 #[tactic(auto, using(crate::proofs::LongLineLemmas::fronts))]
 #[inline(always)]
 pub(crate) fn front_of(text: &[u8]) -> &[u8]
-    ensures { result.now ≡ take 1024 text.now }
+    ensures { result.now ≡ take 65533 text.now }
 {
     if text.len() <= LONGEST_FRONT {
         return text;
@@ -251,7 +257,7 @@ pub(crate) fn front_of(text: &[u8]) -> &[u8]
     &text[..LONGEST_FRONT]
 }
 
-// The stamp in front of a text of at most 1,024 bytes.
+// The stamp in front of a text of at most 65,533 bytes.
 #[inline(always)]
 fn stamp_in(front: &[u8]) -> Result<Stamp, TextRefusal>
     ensures { result ≡ front_stamp front.now (front_at front.now) }
@@ -272,7 +278,7 @@ pub(crate) fn nanos_of(text: &[u8]) -> Option<i128>
     nanos_in(front_of(text))
 }
 
-// The instant of the stamp in front of a text of at most 1,024 bytes.
+// The instant of the stamp in front of a text of at most 65,533 bytes.
 #[inline(always)]
 fn nanos_in(front: &[u8]) -> Option<i128>
     ensures { (before : ℕ) → result
@@ -350,18 +356,6 @@ fn is_continued(rest: &[u8]) -> bool
     match rest {
         [b' ', ..] => false,
         _ => runs_on(false, rest),
-    }
-}
-
-// Whether a line is written.
-#[inline(always)]
-fn goes_on(action: &Action, was: bool, stamp: &Result<LineStamp, LineRefusal>) -> bool
-    ensures { result ≡ goes_on action.now was stamp.now }
-{
-    match (action, stamp) {
-        (Action::Since(bound), Ok(stamp)) => !(stamp.instant < *bound),
-        (Action::Until(bound), Ok(stamp)) => stamp.instant < *bound,
-        _ => was,
     }
 }
 

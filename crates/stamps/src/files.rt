@@ -17,6 +17,9 @@ pub fn front_length(words: &[&[u8]]) -> usize
     if takes_value(word) {
         return 2;
     }
+    if is(word, "between") {
+        return 3;
+    }
     if takes_files(word) {
         return 1;
     }

@@ -1,24 +1,31 @@
 //! The reader of stamps that the first lines of an input choose.
+ghost use Rattle.std.specs.Prelude.{◌≡◌, ◌<◌, ◌⊎◌, ℕ, Ok, OnOk, IfOk, false, length, take, true};
+ghost use Rattle.std.specs.Io.KnownBytes.{IsAtEnd, Keeps};
+ghost use Rattle.line_devices.specs.LineParts.{HasNone};
+ghost use Rattle.stamps.specs.Ahead.{has_fault, head_of, inner_of, left_of};
+ghost use Rattle.stamps.specs.Leading.{LooksAt, Stands};
+ghost use Rattle.stamps.specs.LineStamps.{has_mark, mark_length};
 
 use crate::ahead::{Ahead, MOST_AHEAD};
 use crate::arguments::is;
+use crate::changes::{Anew, Change, Choice};
 use crate::choosing::{chosen_reader, is_plain};
 use crate::files::{LONGEST_SIGN, packing_of};
+use crate::first_years::{first_year, set_year};
+use crate::instants::Chosen;
 use crate::leading::{Leading, Look};
 use crate::nearest::say_bare;
-use crate::readers::{LineRefusal, Reader, line_stamp, mark_length};
-use crate::reading::{ReadingMisuse, needs_lines_before, reader_of, reading_line};
+use crate::readers::{Reader, mark_length};
+use crate::reading::{
+    ReadingMisuse, needs_lines_before, offset_asked, reader_of, reading_line, year_asked,
+};
 use crate::sources::{FAILED, say, say_packed, time_of_change};
-use crate::years::{is_until, year_for};
-use calendar_values::SignedDuration;
-use line_devices::places::place_of;
+use crate::years::year_for;
+use crate::zone_words::in_zone;
 use log_forms::{Place, form_name, reader_form, reader_key, reader_place};
 use std::alloc::AllocError;
 use std::io::Read;
-use utc_times::UtcDateTime;
-
-// The most years before the last change of a file in which its first stamp is looked for: each eight years in a row have a 29 February.
-const MOST_YEARS: i32 = 10;
+use zones::OwnedZone;
 
 /// How stamps are read, as far as words say it, where the first lines of a log choose their form.
 #[derive(Clone, Copy)]
@@ -29,8 +36,12 @@ pub struct Given<'a> {
     pub form: Option<&'a [u8]>,
     /// The value of `--place`.
     pub place: Option<&'a [u8]>,
-    /// The value of `--offset`.
+    /// The value of `--offset`, or UTC where a zone is given.
     pub offset: Option<&'a [u8]>,
+    /// The zone of `--zone`.
+    pub zone: Option<&'a OwnedZone>,
+    /// The name of the zone.
+    pub zone_name: Option<&'a str>,
     /// The values of `--year`.
     pub years: &'a [&'a [u8]],
     /// Whether notes are left out.
@@ -51,7 +62,7 @@ pub fn reader_chosen<R: Read>(
     reader: &Reader,
     said: &str,
     input: &mut Ahead<R>,
-) -> Result<Option<Reader>, u8> {
+) -> Result<Chosen, u8> {
     let Ok(is_whole) = read_sign(input) else {
         return Err(fail_in_memory(rt, said));
     };
@@ -77,8 +88,9 @@ pub fn reader_chosen<R: Read>(
             None
         }
     };
+    let anew = anew_from(rt, given, choice, said);
     if choice.is_none() && (given.chooses || given.years.is_empty()) {
-        return Ok(None);
+        return Ok(Chosen { reader: None, anew });
     }
     let made = match reader_in_year(rt, given, choice, said, first_block(input.head())) {
         Ok(reader) => reader,
@@ -87,7 +99,42 @@ pub fn reader_chosen<R: Read>(
             return Err(FAILED);
         }
     };
-    Ok(Some(made))
+    Ok(Chosen {
+        reader: Some(made),
+        anew,
+    })
+}
+
+// How the form of an input is chosen anew, after the reader with a number or that of RFC 3339 in front, unless words name it.
+fn anew_from(
+    rt: &HostRuntime,
+    given: Given<'_>,
+    choice: Option<usize>,
+    said: &str,
+) -> Option<Anew> {
+    if !given.chooses {
+        return None;
+    }
+    let name = if said.is_empty() { "-" } else { said };
+    let year = match year_for(given.years, name.as_bytes()) {
+        Some(text) if is(text, "mtime") => match time_of_change(rt, name) {
+            Some(changed) => Some(changed.year()),
+            None => None,
+        },
+        year => match year_asked(year) {
+            Ok(year) => year,
+            Err(_) => None,
+        },
+    };
+    Some(Anew {
+        number: choice.unwrap_or(0),
+        // A form that lines choose anew has no zone, and so no offset that is assumed.
+        offset: match offset_asked(given.offset) {
+            Ok(offset) if given.zone.is_none() => offset,
+            _ => None,
+        },
+        year,
+    })
 }
 
 // Says that no memory is left, and returns the exit status.
@@ -107,15 +154,15 @@ fn reader_in_year(
     let name = if said.is_empty() { "-" } else { said };
     let year = year_for(given.years, name.as_bytes());
     if !matches!(year, Some(text) if is(text, "mtime")) {
-        return reader_by(given, choice, year);
+        return reader_by(rt, given, choice, year);
     }
     let Some(changed) = time_of_change(rt, name) else {
-        return match reader_by(given, choice, None) {
+        return match reader_by(rt, given, choice, None) {
             Err(ReadingMisuse::LacksYear) => Err(ReadingMisuse::YearTime),
             other => other,
         };
     };
-    let mut reader = reader_by(given, choice, Some(b"2000"))?;
+    let mut reader = reader_by(rt, given, choice, Some(b"2000"))?;
     if needs_lines_before(&reader) {
         let year = first_year(&mut reader, head, changed);
         set_year(&mut reader, year);
@@ -127,62 +174,31 @@ fn reader_in_year(
 }
 
 /// The reader of an input, or that of the words if the input has none of its own.
-pub fn reader_or(own: Option<Reader>, given: Given<'_>) -> Result<Reader, ReadingMisuse> {
+pub fn reader_or(
+    rt: &HostRuntime,
+    own: Option<Reader>,
+    given: Given<'_>,
+) -> Result<Reader, ReadingMisuse> {
     match own {
         Some(own) => Ok(own),
-        None => reader_by(given, None, None),
+        None => reader_by(rt, given, None, None),
     }
 }
 
 // The reader of the form and the place with a number, or of the words, in a year.
 fn reader_by(
+    rt: &HostRuntime,
     given: Given<'_>,
     choice: Option<usize>,
     year: Option<&[u8]>,
 ) -> Result<Reader, ReadingMisuse> {
-    match choice {
-        Some(number) => chosen_reader(number, given.offset, year),
-        None => reader_of(given.form, given.place, given.offset, year),
-    }
-}
-
-// The year of the first stamp in a head: the latest in which that is at most a day after the last change of the file. A file spans less than
-// a year. Where no line has a stamp, it is the year of the change.
-fn first_year(reader: &mut Reader, head: &[u8], changed: UtcDateTime) -> i32 {
-    let bound = changed.saturating_add(SignedDuration::days(1));
-    let top = bound.year().saturating_add(1);
-    let mut from = 0;
-    for _ in 0..head.len() {
-        if from >= head.len() {
-            break;
-        }
-        let end = place_of(b'\n', head, from);
-        if end > head.len() || from > end {
-            break;
-        }
-        let line = &head[from..end];
-        for back in 0..MOST_YEARS {
-            let year = top.saturating_sub(back);
-            set_year(reader, year);
-            if is_until(reader, from == 0, line, bound) {
-                return year;
-            }
-            if matches!(
-                line_stamp(reader, None, from == 0, line),
-                Err(LineRefusal::Absent)
-            ) {
-                break;
-            }
-        }
-        from = end.saturating_add(1);
-    }
-    changed.year()
-}
-
-// Sets the year that a reader assumes.
-fn set_year(reader: &mut Reader, year: i32) {
-    if let Reader::Formed(reader) = reader {
-        reader.assumed.year = Some(year);
+    let reader = match choice {
+        Some(number) => chosen_reader(number, given.offset, year)?,
+        None => reader_of(given.form, given.place, given.offset, year)?,
+    };
+    match in_zone(rt.alloc(), reader, given.zone) {
+        Ok(reader) => Ok(reader),
+        Err(_) => Err(ReadingMisuse::NoMemory),
     }
 }
 
@@ -215,28 +231,89 @@ fn look_at<R: Read>(
     reader: &Reader,
     input: &mut Ahead<R>,
     is_whole: bool,
-) -> Result<Look, AllocError> {
+) -> Result<Look, AllocError>
+    ensures left { OnOk result
+        (Keeps (left_of R.remaining input.old) (left_of R.remaining input.new)) }
+    ensures look { IfOk result (λ look. LooksAt chooses reader.now
+        (mark_length (has_mark true (head_of input.old))) (head_of input.new)
+        ((is_whole ≡ true) ⊎ IsAtEnd (R.remaining (inner_of input.new))) (has_fault input.new)
+        look) }
+{
     let mut lines = Leading::new(chooses, mark_length(true, input.head()));
-    let mut is_whole = is_whole;
-    for _ in 0..=MOST_AHEAD {
-        let head = first_block(input.head());
-        if lines.look_on(reader, head) || head.len() >= MOST_AHEAD || is_whole {
-            break;
-        }
-        is_whole = input.read_on()? == 0;
-    }
+    let is_at_end = look_further(&mut lines, reader, input, is_whole)?;
     let head = first_block(input.head());
-    if is_whole && !input.has_fault() || lines.is_first() && head.len() >= MOST_AHEAD {
-        lines.end(reader, head);
-    }
+    lines.end(reader, head, is_at_end);
     Ok(lines.look(head))
 }
 
+// Reads on until the lines tell the reader of an input. Returns whether it has no more bytes.
+fn look_further<R: Read>(
+    lines: &mut Leading,
+    reader: &Reader,
+    input: &mut Ahead<R>,
+    is_whole: bool,
+) -> Result<bool, AllocError>
+    ensures left { OnOk result
+        (Keeps (left_of R.remaining input.old) (left_of R.remaining input.new)) }
+    ensures chooses { lines.new.chooses ≡ lines.old.chooses }
+    ensures stands { OnOk result ((first : ℕ)
+        → Stands reader.now first (take 65536 (head_of input.old)) lines.old
+        → Stands reader.now first (take 65536 (head_of input.new)) lines.new) }
+    ensures all { OnOk result (lines.new.is_told ≡ false
+        → HasNone 10 (take 65536 (head_of input.new)) lines.new.from
+        (length (take 65536 (head_of input.new)))) }
+    ensures at_end { result ≡ Ok true
+        → (is_whole ≡ true) ⊎ IsAtEnd (R.remaining (inner_of input.new)) }
+    ensures settled { result ≡ Ok false → has_fault input.new ≡ false
+        → length (head_of input.new) < 65536 → lines.new.is_told ≡ true }
+{
+    let mut is_at_end = is_whole;
+    let mut is_told = lines.look_on(reader, first_block(input.head()));
+    'reads: while !is_told && !is_at_end && input.head().len() < MOST_AHEAD {
+        is_at_end = input.read_on()? == 0;
+        is_told = lines.look_on(reader, first_block(input.head()));
+    }
+    Ok(is_at_end && !input.has_fault())
+}
+
 // The first bytes of a head, which are looked at.
-fn first_block(head: &[u8]) -> &[u8] {
-    match head.get(..MOST_AHEAD) {
-        Some(block) => block,
-        None => head,
+#[tactic(auto, using(crate::proofs::LeadingLemmas::blocks))]
+fn first_block(head: &[u8]) -> &[u8]
+    ensures { result.now ≡ take 65536 head.now }
+{
+    if head.len() <= MOST_AHEAD {
+        return head;
+    }
+    &head[..MOST_AHEAD]
+}
+
+/// Says which forms an input changes to, and which it may have that lack an option.
+pub fn say_changes(rt: &HostRuntime, said: &str, choice: &Choice) {
+    for change in choice.changes.items() {
+        if let Ok(text) = change_text(rt, change) {
+            say(rt, said, text.as_str());
+        }
+    }
+    if choice.more > 0 {
+        let more = choice.more;
+        if let Ok(text) = format!(in rt.alloc(); "{more} more changes of form") {
+            say(rt, said, text.as_str());
+        }
+    }
+}
+
+// The text of a change: the first line that is read by the new form, and the forms before and after it.
+fn change_text(rt: &HostRuntime, change: &Change) -> Result<String, AllocError> {
+    let (line, to) = (change.line, choice_text(rt, change.to)?);
+    match change.lacks {
+        Some(misuse) => {
+            let lack = reading_line(misuse);
+            format!(in rt.alloc(); "line {line}: {to} fits: {lack}")
+        }
+        None => {
+            let (next, from) = (line.saturating_add(1), choice_text(rt, change.from)?);
+            format!(in rt.alloc(); "line {next}: the form changes from {from} to {to}")
+        }
     }
 }
 

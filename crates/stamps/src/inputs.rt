@@ -4,13 +4,17 @@ ghost use Rattle.line_devices.specs.Device.{has_failed};
 ghost use Rattle.stamps.specs.Tasks.{checks, ends_at_finding, tells};
 
 use crate::files::is_compressed;
-use crate::first_lines::{Given, reader_chosen};
+use crate::first_lines::{Given, reader_chosen, say_changes};
+use crate::instants::Chosen;
+use crate::lines::Work;
+use crate::readers::Reader;
 use crate::sources::{
     FAILED, Input, clear_progress, print_line, say, say_compressed, say_unwritten,
 };
 use crate::stamps::{StampFault, stamps, status_of};
-use crate::tallies::tell_tally;
+use crate::tallies::{tell_long, tell_tally};
 use crate::task::{Action, Task};
+use crate::watches::{tell_clocks, watch_input};
 use line_devices::devices::{Device, Sink, Source};
 use std::io::Write;
 
@@ -121,33 +125,56 @@ fn run_input<T: Write>(
     let Some(mut input) = Input::open(rt, name, true) else {
         return FAILED;
     };
-    let own = match reader_chosen(rt, given, &task.reader, said, &mut input) {
-        Ok(own) => own,
+    let chosen = match reader_chosen(rt, given, &task.reader, said, &mut input) {
+        Ok(chosen) => chosen,
         Err(status) => return status,
     };
-    let other = match own {
-        Some(reader) => Some(Task {
-            action: task.action,
-            reader,
-        }),
-        None => None,
-    };
+    let other = own_task(task, chosen);
     let task = match &other {
         Some(other) => other,
         None => task,
     };
+    if watch_input(rt.alloc(), &mut input, &task.reader, task.anew).is_err() {
+        say(rt, said, "no memory is left");
+        return FAILED;
+    }
     let shows_progress = input.inner().shows_progress();
-    let ended = stamps(task, &mut Device::new(input), writer);
+    let mut work = Work::new(task);
+    let mut source = Device::new(input);
+    let ended = stamps(task, &mut source, writer, &mut work);
     if shows_progress {
         clear_progress(rt);
     }
+    if !given.is_quiet {
+        say_changes(rt, said, &work.state.choice);
+    }
     let mut is_poor = false;
     match &ended {
-        Ok(_) if checks(task) => {}
+        Ok(tally) if checks(task) => tell_long(rt, said, tally, given.is_quiet),
         Ok(tally) => is_poor = tell_tally(rt, said, tally, given.is_quiet) > 0,
         Err(StampFault::Read) => say(rt, said, "read failed"),
         Err(StampFault::Write) => return say_unwritten(rt, said, writer),
         Err(StampFault::Found(found)) => say(rt, said, found.text().as_str()),
     }
+    if ended.is_ok() {
+        tell_clocks(rt, said, given, source.inner().inner().clocks());
+    }
     status_of(&ended, is_poor || tells(task) && writer.has_written())
+}
+
+/// The task on an input that has a reader of its own, or whose form is chosen anew.
+pub fn own_task(task: &Task, chosen: Chosen) -> Option<Task> {
+    match (chosen.reader, chosen.anew) {
+        (Some(reader), anew) => Some(Task {
+            action: task.action,
+            reader,
+            anew,
+        }),
+        (None, Some(anew)) => Some(Task {
+            action: task.action,
+            reader: Reader::Plain,
+            anew: Some(anew),
+        }),
+        (None, None) => None,
+    }
 }

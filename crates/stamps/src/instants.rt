@@ -1,13 +1,15 @@
 //! The instants of lines, for a merge.
-ghost use Rattle.std.specs.Prelude.{◌≡◌, None, slice_get};
+ghost use Rattle.std.specs.Prelude.{◌≡◌, None, option_map, slice_get};
 ghost use Rattle.std.specs.Option.{option_and_then};
 ghost use Rattle.plain_times.specs.Sums.{wall_clock_if_any};
-ghost use Rattle.stamps.specs.LineInstants.{instant_after, line_instant, log_instant, reader_or};
+ghost use Rattle.stamps.specs.LineInstants.{anew_of, instant_after, instant_by, line_instant, other_of, own_or, reader_or};
 ghost use Rattle.stamps.specs.declared.readers.Reader.TheVariants.{Plain};
 
+use crate::changes::{Anew, Choice};
 use crate::decide::nanos_of;
 use crate::readers::{Reader, line_stamp, mark_length};
 use crate::reading::needs_lines_before;
+use line_devices::stamp_tallies::LineKind;
 use line_merges::instants::Instants;
 use utc_times::UtcDateTime;
 
@@ -16,36 +18,125 @@ use utc_times::UtcDateTime;
 pub struct StampInstants {
     /// How stamps are read, as the words ask for it.
     pub reader: Reader,
-    /// How those of each log are read, where its first lines choose that.
-    pub chosen: Vec<Option<Reader>>,
+    /// How those of each log are read.
+    pub chosen: Vec<LogReader>,
+}
+
+/// How the stamps of a log are read.
+#[derive(Drop)]
+pub struct LogReader {
+    /// The first reader, and how the form is chosen anew.
+    pub chosen: Chosen,
+    /// The reader of the lines that the first one does not read: a merge in one style has each
+    /// stamp in front, or in a member of JSON.
+    pub other: Option<Reader>,
+}
+
+/// How the stamps of an input are read.
+#[derive(Drop)]
+pub struct Chosen {
+    /// The reader, if it has one of its own.
+    pub reader: Option<Reader>,
+    /// How its form is chosen anew where it changes, unless words name it.
+    pub anew: Option<Anew>,
 }
 
 impl Instants for StampInstants {
-    ghost use Rattle.stamps.specs.LineInstants.{log_instant};
-    ghost use Rattle.stamps.specs.LineInstantLemmas.{log_instant-by_head};
+    ghost use Rattle.stamps.specs.LogReadings.{log_reading};
+    ghost use Rattle.stamps.specs.LogReadingLemmas.{log_reading-by_head, log_reading-remembers_head};
 
-    ghost instant = { log_instant };
+    type Memory = Choice;
+
+    ghost reading = { log_reading };
 
     fn instant_of(
         &self,
         log: usize,
+        memory: &Choice,
         last: Option<i128>,
         is_first: bool,
         line: &[u8],
     ) -> Option<i128> {
-        crate::instants::instant_after(crate::instants::reader_at(self, log), last, is_first, line)
+        let first = crate::instants::reader_at(self, log);
+        let anew = crate::instants::anew_at(self, log);
+        let reader = memory.reader(&anew, first);
+        crate::instants::instant_by(
+            reader,
+            crate::instants::other_at(self, log),
+            last,
+            is_first,
+            line,
+        )
     }
 
-    ghost by_head = { log_instant-by_head };
+    fn remember(&self, log: usize, memory: &mut Choice, number: u64, kind: LineKind, line: &[u8]) {
+        let anew = crate::instants::anew_at(self, log);
+        memory.take(&anew, number, kind, line);
+    }
+
+    ghost by_head = { log_reading-by_head };
+
+    ghost remembers_head = { log_reading-remembers_head };
 }
 
-// How the stamps of the log with this number are read.
+// How the stamps of the log with this number are read at first.
 fn reader_at(instants: &StampInstants, log: usize) -> &Reader
     ensures { result.now ≡ reader_or instants.now.reader (slice_get instants.now.chosen.items log) }
 {
+    let Some(log) = instants.chosen.get(log) else {
+        return &instants.reader;
+    };
+    own_or(&log.chosen.reader, &instants.reader)
+}
+
+/// The reader of a log, or that of the words if the log has none of its own.
+pub fn own_or<'a>(own: &'a Option<Reader>, words: &'a Reader) -> &'a Reader
+    ensures { result.now ≡ own_or words.now own.now }
+{
+    match own {
+        Some(own) => own,
+        None => words,
+    }
+}
+
+// How the form of the log with this number is chosen anew, if it is.
+fn anew_at(instants: &StampInstants, log: usize) -> Option<Anew>
+    ensures { result ≡ anew_of (slice_get instants.now.chosen.items log) }
+{
     match instants.chosen.get(log) {
-        Some(Some(own)) => own,
-        _ => &instants.reader,
+        Some(log) => log.chosen.anew,
+        None => None,
+    }
+}
+
+// What reads the lines of the log with this number that its first reader does not read.
+fn other_at(instants: &StampInstants, log: usize) -> Option<&Reader>
+    ensures { option_map (λ reader. reader.now) result
+        ≡ other_of (slice_get instants.now.chosen.items log) }
+{
+    let Some(log) = instants.chosen.get(log) else {
+        return None;
+    };
+    match &log.other {
+        Some(other) => Some(other),
+        None => None,
+    }
+}
+
+// The instant of a line in nanoseconds, if it has a stamp that a reader reads, or another one if there is one.
+fn instant_by(
+    reader: &Reader,
+    other: Option<&Reader>,
+    last: Option<i128>,
+    is_first: bool,
+    line: &[u8],
+) -> Option<i128>
+    ensures { result ≡ instant_by reader.now (option_map (λ reader. reader.now) other.entry) last
+        is_first line.now }
+{
+    match (instant_after(reader, last, is_first, line), other) {
+        (None, Some(other)) => instant_after(other, last, is_first, line),
+        (found, _) => found,
     }
 }
 

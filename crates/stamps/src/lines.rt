@@ -1,25 +1,33 @@
 //! Lines out of blocks of bytes.
-ghost use Rattle.std.specs.Prelude.{◌≡◌, ◌≢◌, ◌+◌, ◌≤◌, ◌<◌, ℕ, true, false, List, [], ◌∷◌, ◌++◌, take, drop, length, Option, OnOk, IfOk, IfErr, IsOk};
+ghost use Rattle.std.specs.Prelude.{◌≡◌, ◌≢◌, ◌+◌, ◌≤◌, ◌<◌, ℕ, ℤ, Bool, not, true, false, List, [], ◌∷◌, ◌++◌, take, drop, length};
+ghost use Rattle.std.specs.Prelude.{◌&&◌, ◌-ℤ◌, int_lt, nat_lt, pos, Ok, Option, OnOk, IfOk, IfErr, IfSome, IsOk};
 ghost use Rattle.line_devices.specs.LineParts.{HasNone};
 ghost use Rattle.line_devices.specs.Writing.{MarksFailure, SendsAll};
-ghost use Rattle.stamps.specs.Decisions.{decision_of, first_state, state_after};
+ghost use Rattle.stamps.specs.Decisions.{decision_by, decision_of, first_state, going_on, is_earlier, state_after};
+ghost use Rattle.stamps.specs.declared.decide.Decision.TheVariants.{Keep, Skip};
+ghost use Rattle.stamps.specs.declared.decide.State.{State};
 ghost use Rattle.stamps.specs.Progress.{Begins, Completes, Decided, Ends, Keeps, KeepsLine, Passes};
 ghost use Rattle.stamps.specs.Notes.{note_text};
 ghost use Rattle.stamps.specs.Progress.{Settled, Stands, TellsNote, WritesPending, is_kept, mark_after, to_send};
 ghost use Rattle.stamps.specs.declared.lines.LineFault.TheVariants.{Write};
 ghost use Rattle.stamps.specs.declared.lines.Progress.TheVariants.{Kept};
+ghost use Rattle.stamps.specs.declared.task.Action.TheVariants.{Check, CheckAll};
 
 use crate::decide::{
     Decision, LONGEST_HEAD, State, decision_by, finding_at_end, first_state, read_stamp, style_of,
+    take_stamp,
 };
 use crate::finding::Finding;
 use crate::notes::{Note, end_of, front_of, middle_of};
+use crate::readers::{LineStamp, plain_stamp};
 use crate::style::text_in;
-use crate::task::Task;
+use crate::task::{Action, Task};
+use calendar_values::SignedDuration;
 use line_devices::devices::{DeviceFault, Sink};
 use line_devices::places::place_of;
 use line_devices::sending::{Pending, flush, send};
 use line_devices::table::Table;
+use utc_times::UtcDateTime;
 
 /// The reason why the work ended before the end of the input.
 #[derive(Clone, Copy, Debug, PartialEq, Eq)]
@@ -318,6 +326,7 @@ fn begin_kept<W: Sink>(
 }
 
 // Decides a line by what was read of it, and sends that. Where it ends the run, what is pending is written.
+#[inline(always)]
 fn begin<W: Sink>(
     task: &Task,
     writer: &mut W,
@@ -330,7 +339,164 @@ fn begin<W: Sink>(
         (W.written writer.old) (W.written writer.new) pending.old pending.new line.now }
     ensures mark { W.is_marked writer.new ≡ mark_after result (W.is_marked writer.old) }
 {
-    let before = *state;
+    match task.action {
+        Action::Write(_, _) | Action::Check(_) | Action::CheckAll(_) => {
+            begin_at_once(task, writer, pending, state, line)
+        }
+        Action::Gaps(_, _) | Action::Since(_) | Action::Until(_) | Action::Between(_, _) => {
+            begin_by_instant(task, writer, pending, state, line)
+        }
+    }
+}
+
+// Does so. For a date-time of RFC 3339 in front that is written anew, or in order, the way is short.
+fn begin_at_once<W: Sink>(
+    task: &Task,
+    writer: &mut W,
+    pending: &mut Pending,
+    state: &mut State,
+    line: &[u8],
+) -> Result<Progress, LineFault>
+    ensures state { state.new ≡ state_after task.now state.old line.now }
+    ensures begins { Begins result (decision_of task.now state.old line.now) state.new
+        (W.written writer.old) (W.written writer.new) pending.old pending.new line.now }
+    ensures mark { W.is_marked writer.new ≡ mark_after result (W.is_marked writer.old) }
+{
+    let reader = state.choice.reader(&task.anew, &task.reader);
+    if let Some(stamp) = plain_stamp(reader, state.lines == 0, line) {
+        // A text that replaces a stamp is sent from where it was written.
+        if let Some(style) = style_of(&task.action, &stamp) {
+            if let Some(text) = &text_in(style, stamp.instant) {
+                take_stamp(task, state, &stamp);
+                let (start, count) = (stamp.start, stamp.length);
+                return keep_text(writer, pending, line, start, text.as_bytes(), count);
+            }
+        } else if is_in_order(&task.action, state.last, &stamp) {
+            take_stamp(task, state, &stamp);
+            return Ok(Progress::Skipped);
+        }
+    }
+    begin_line(task, writer, pending, state, line)
+}
+
+// Does so. For a date-time of RFC 3339 in front its instant decides, and the way is short.
+fn begin_by_instant<W: Sink>(
+    task: &Task,
+    writer: &mut W,
+    pending: &mut Pending,
+    state: &mut State,
+    line: &[u8],
+) -> Result<Progress, LineFault>
+    ensures state { state.new ≡ state_after task.now state.old line.now }
+    ensures begins { Begins result (decision_of task.now state.old line.now) state.new
+        (W.written writer.old) (W.written writer.new) pending.old pending.new line.now }
+    ensures mark { W.is_marked writer.new ≡ mark_after result (W.is_marked writer.old) }
+{
+    let reader = state.choice.reader(&task.anew, &task.reader);
+    let Some(stamp) = plain_stamp(reader, state.lines == 0, line) else {
+        return begin_line(task, writer, pending, state, line);
+    };
+    let (last, latest, before) = (state.last, state.latest, state.latest);
+    take_stamp(task, state, &stamp);
+    if let Some(goes_on) = going_of(&task.action, before, state, &stamp) {
+        return begin_whole(writer, pending, goes_on, line);
+    }
+    let decision = decision_by(&task.action, last, latest, state, &Ok(stamp));
+    carry_out(writer, pending, decision, line)
+}
+
+// Whether a line with this stamp is written whole or not at all, by the latest instant before it and by the state after it. None where
+// more decides.
+#[inline(always)]
+fn going_of(
+    action: &Action,
+    latest: Option<UtcDateTime>,
+    after: &State,
+    stamp: &LineStamp,
+) -> Option<bool>
+    ensures { IfSome result (λ goes_on. (last : Option ℤ)
+        → decision_by action.now last latest after.now (Ok stamp.now) ≡ going_on goes_on) }
+{
+    match (action, latest) {
+        (Action::Since(_) | Action::Until(_) | Action::Between(_, _), _) => Some(after.goes_on),
+        (Action::Gaps(_, _), None) => Some(false),
+        (Action::Gaps(limit, _), Some(before)) if is_soon(*limit, before, stamp.instant) => Some(
+            false,
+        ),
+        _ => None,
+    }
+}
+
+// Whether an instant is no earlier than another, and no more than the limit later.
+#[inline(always)]
+fn is_soon(limit: SignedDuration, before: UtcDateTime, at: UtcDateTime) -> bool
+    ensures { result ≡ not (int_lt at before) && not (int_lt limit (at -ℤ before)) }
+{
+    if at.date() == before.date() {
+        let (begun, ended) = (before.time(), at.time());
+        return is_soon_in_a_day(limit, begun.nanosecond_of_day(), ended.nanosecond_of_day());
+    }
+    !(at < before) && !(limit < at - before)
+}
+
+// The same of two times of one day, in nanoseconds. Most lines of a log are of the day of the line before.
+#[inline(always)]
+fn is_soon_in_a_day(limit: SignedDuration, before: u64, at: u64) -> bool
+    ensures { result ≡ not (nat_lt at before) && not (int_lt limit (pos at -ℤ pos before)) }
+{
+    !(at < before) && !(limit.whole_nanoseconds() < (at - before) as i128)
+}
+
+// Sends a line whole, or passes it over.
+#[inline(always)]
+fn begin_whole<W: Sink>(
+    writer: &mut W,
+    pending: &mut Pending,
+    goes_on: bool,
+    line: &[u8],
+) -> Result<Progress, LineFault>
+    ensures begins { (known : State) → Begins result (going_on goes_on) known
+        (W.written writer.old) (W.written writer.new) pending.old pending.new line.now }
+    ensures mark { W.is_marked writer.new ≡ mark_after result (W.is_marked writer.old) }
+{
+    if !goes_on {
+        return Ok(Progress::Skipped);
+    }
+    send(writer, pending, line)?;
+    Ok(Progress::Sent)
+}
+
+// Whether the task is to check a line with this stamp, and it is not earlier than the last one.
+#[inline(always)]
+fn is_in_order(action: &Action, last: Option<UtcDateTime>, stamp: &LineStamp) -> bool
+    ensures skipped { result ≡ true → (latest : Option ℤ) (after : State)
+        → decision_by action.now last latest after (Ok stamp.now) ≡ Skip }
+    ensures check { (is_strict : Bool) → action.now ≡ Check is_strict
+        → result ≡ not (is_earlier stamp.now.instant last) }
+    ensures check_all { (is_strict : Bool) → action.now ≡ CheckAll is_strict
+        → result ≡ not (is_earlier stamp.now.instant last) }
+{
+    match (action, last) {
+        (Action::Check(_) | Action::CheckAll(_), Some(last)) => !(stamp.instant < last),
+        (Action::Check(_) | Action::CheckAll(_), None) => true,
+        _ => false,
+    }
+}
+
+// Does so for every line.
+fn begin_line<W: Sink>(
+    task: &Task,
+    writer: &mut W,
+    pending: &mut Pending,
+    state: &mut State,
+    line: &[u8],
+) -> Result<Progress, LineFault>
+    ensures state { state.new ≡ state_after task.now state.old line.now }
+    ensures begins { Begins result (decision_of task.now state.old line.now) state.new
+        (W.written writer.old) (W.written writer.new) pending.old pending.new line.now }
+    ensures mark { W.is_marked writer.new ≡ mark_after result (W.is_marked writer.old) }
+{
+    let (last, latest) = (state.last, state.latest);
     let stamp = read_stamp(task, state, line);
     // A text that replaces a stamp is sent from where it was written.
     if let Ok(stamp) = &stamp {
@@ -341,7 +507,25 @@ fn begin<W: Sink>(
             }
         }
     }
-    match decision_by(&task.action, &before, state, &stamp) {
+    let decision = decision_by(&task.action, last, latest, state, &stamp);
+    carry_out(writer, pending, decision, line)
+}
+
+// Sends what a decision keeps or tells of a line, or writes what is pending where the line ends the run.
+#[inline(always)]
+fn carry_out<W: Sink>(
+    writer: &mut W,
+    pending: &mut Pending,
+    decision: Decision,
+    line: &[u8],
+) -> Result<Progress, LineFault>
+    requires { (start count : ℕ) (text : List ℕ) → Keep start text count ≡ decision
+        → start + count ≤ length line.now }
+    ensures begins { (known : State) → Begins result decision known
+        (W.written writer.old) (W.written writer.new) pending.old pending.new line.now }
+    ensures mark { W.is_marked writer.new ≡ mark_after result (W.is_marked writer.old) }
+{
+    match decision {
         Decision::Keep(start, text, count) => {
             keep_text(writer, pending, line, start, text.as_bytes(), count)
         }

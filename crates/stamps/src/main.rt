@@ -3,16 +3,21 @@
 
 mod ahead;
 mod arguments;
+mod bounds;
+mod changes;
 mod choosing;
+mod clock_tallies;
 mod counts;
 mod decide;
 mod durations;
 mod files;
 mod finding;
 mod first_lines;
+mod first_years;
 mod fronted;
 mod inputs;
 mod instants;
+mod lasts;
 mod laws;
 mod leading;
 mod lines;
@@ -21,31 +26,43 @@ mod nearest;
 mod notes;
 mod readers;
 mod reading;
+mod restyled;
 mod sources;
 mod stamps;
 mod style;
 mod tallies;
 mod task;
 mod usage;
+mod watches;
 mod years;
+mod zone_words;
+mod zoned;
 
 use arguments::{Misuse, Request, is, misuse_line, request_of};
+use bounds::{Around, Cut, NoCut, action_of, bound_instant, needs_last, needs_now, no_cut_line};
+use calendar_values::SignedDuration;
 use counts::ClockBuckets;
 use files::{front_length, is_dashes, is_option};
 use first_lines::Given;
+use lasts::{last_of_files, reading_task};
 use log_forms::{FORMS, form_name, sample_of};
 use readers::Reader;
 use reading::{
-    ReadingMisuse, Step, is_valued, kind_of, reader_of, reading_line, step_after, style_asked,
-    twice_of,
+    ReadingMisuse, Step, is_valued, kind_of, offset_asked, reader_of, reading_line, step_after,
+    style_asked, twice_of,
 };
 use sources::{FAILED, print_line, say};
 use std::alloc::AllocError;
 use std::process::ExitCode;
+use std::time::{SystemTime, UNIX_EPOCH};
 use std::{env, io};
-use task::{Style, Task};
+use style::text_in;
+use task::{Action, Style, Task};
 use usage::USAGE;
+use utc_times::UtcDateTime;
 use years::{is_year, name_in, names_same, year_in};
+use zone_words::{in_zone, zone_named};
+use zones::OwnedZone;
 
 // The version of the library, which the program has too: make/versions writes it.
 const VERSION_LINE: &str = "stamps 0.1.0";
@@ -77,9 +94,12 @@ struct Asked {
     form: Option<String>,
     place: Option<String>,
     offset: Option<String>,
+    zone: Option<String>,
     years: Vec<String>,
     to: Option<String>,
+    until: Option<String>,
     is_quiet: bool,
+    is_verbose: bool,
     options: Vec<String>,
 }
 
@@ -91,7 +111,9 @@ impl Asked {
             Step::Form => &mut self.form,
             Step::Place => &mut self.place,
             Step::Offset => &mut self.offset,
+            Step::Zone => &mut self.zone,
             Step::To => &mut self.to,
+            Step::Until => &mut self.until,
             _ => return self.keep_year(word),
         };
         let is_first = value.is_none();
@@ -114,8 +136,10 @@ impl Asked {
         self.form.is_some()
             || self.place.is_some()
             || self.offset.is_some()
+            || self.zone.is_some()
             || !self.years.is_empty()
             || self.to.is_some()
+            || self.until.is_some()
     }
 }
 
@@ -137,9 +161,12 @@ fn sort(rt: &HostRuntime, given: Vec<String>) -> Result<Sorted, AllocError> {
         form: None,
         place: None,
         offset: None,
+        zone: None,
         years: Vec::new(rt.alloc()),
         to: None,
+        until: None,
         is_quiet: false,
+        is_verbose: false,
         options: Vec::new(rt.alloc()),
     };
     let mut step = Step::Word;
@@ -148,11 +175,19 @@ fn sort(rt: &HostRuntime, given: Vec<String>) -> Result<Sorted, AllocError> {
         let before = step;
         step = step_after(before, word.as_bytes());
         match step {
-            Step::Form | Step::Place | Step::Offset | Step::Year | Step::To => {
-                asked.options.push(word)?
-            }
+            Step::Form
+            | Step::Place
+            | Step::Offset
+            | Step::Year
+            | Step::To
+            | Step::Zone
+            | Step::Until => asked.options.push(word)?,
             Step::Quiet => {
                 asked.is_quiet = true;
+                asked.options.push(word)?;
+            }
+            Step::Verbose => {
+                asked.is_verbose = true;
                 asked.options.push(word)?;
             }
             Step::Value => {
@@ -174,13 +209,21 @@ fn sort(rt: &HostRuntime, given: Vec<String>) -> Result<Sorted, AllocError> {
             )
         }
         Step::Offset => sort_as_misuse(rt, "--offset has no value: add one, as +05:30 or Z"),
+        Step::Zone => sort_as_misuse(rt, "--zone has no value: add a name, as Europe/Berlin"),
         Step::Year => {
             sort_as_misuse(
                 rt,
                 "--year has no value: add its four digits, as 2024, FILE=2024 or mtime",
             )
         }
-        Step::To => sort_as_misuse(rt, "--to has no value: add utc, or an offset, as +05:30"),
+        Step::To => sort_as_misuse(
+            rt,
+            "--to has no value: add utc, unix, or an offset, as +05:30",
+        ),
+        Step::Until => sort_as_misuse(
+            rt,
+            "--until has no value: add a date-time, as 2024-02-29T12:00:00Z",
+        ),
         _ if lists && (!words.is_empty() || asked.is_any()) => {
             sort_as_misuse(rt, "--list-forms takes no other words: leave them out")
         }
@@ -258,7 +301,7 @@ fn reader_asked(asked: &Asked) -> Result<Reader, ReadingMisuse> {
     reader_of(
         bytes_if(&asked.form),
         bytes_if(&asked.place),
-        bytes_if(&asked.offset),
+        offset_of(asked),
         if asked.years.is_empty() {
             None
         } else {
@@ -311,16 +354,39 @@ fn value_at_fault(asked: &Asked, misuse: ReadingMisuse) -> &str {
 
 // How stamps are read, as far as words say it. The first lines of a log choose the form unless a
 // word gives a form or a place.
-fn choice_of<'a>(asked: &'a Asked, years: &'a [&'a [u8]], words: &'a [String]) -> Given<'a> {
+fn choice_of<'a>(
+    asked: &'a Asked,
+    zone: Option<&'a OwnedZone>,
+    years: &'a [&'a [u8]],
+    words: &'a [String],
+) -> Given<'a> {
     Given {
         chooses: asked.form.is_none() && asked.place.is_none(),
         form: bytes_if(&asked.form),
         place: bytes_if(&asked.place),
-        offset: bytes_if(&asked.offset),
+        offset: offset_of(asked),
+        zone,
+        zone_name: name_if(&asked.zone),
         years,
         is_quiet: asked.is_quiet,
         words,
         options: asked.options.as_slice(),
+    }
+}
+
+// The offset of stamps that have none. The clocks of a zone are read as those of UTC at first.
+fn offset_of(asked: &Asked) -> Option<&[u8]> {
+    match &asked.zone {
+        Some(_) => Some(b"Z"),
+        None => bytes_if(&asked.offset),
+    }
+}
+
+// A word, if it is given.
+fn name_if(word: &Option<String>) -> Option<&str> {
+    match word {
+        Some(word) => Some(word.as_str()),
+        None => None,
     }
 }
 
@@ -332,9 +398,26 @@ fn bytes_if(word: &Option<String>) -> Option<&[u8]> {
     }
 }
 
+// The words of the request as bytes: `--until` and its value are the last of them.
+fn words_of_request<'a>(
+    rt: &HostRuntime,
+    given: &'a [String],
+    asked: &'a Asked,
+) -> Result<Vec<&'a [u8]>, AllocError> {
+    let mut words = bytes_of(rt, given)?;
+    if let Some(bound) = &asked.until {
+        words.push(b"--until")?;
+        words.push(bound.as_bytes())?;
+    }
+    Ok(words)
+}
+
 // Does what the words ask for, without those for how stamps are read.
 fn obey(rt: &HostRuntime, given: &[String], files: &[String], asked: &Asked) -> ExitCode {
-    let (Ok(words), Ok(years)) = (bytes_of(rt, given), bytes_of(rt, asked.years.as_slice())) else {
+    let (Ok(words), Ok(years)) = (
+        words_of_request(rt, given, asked),
+        bytes_of(rt, asked.years.as_slice()),
+    ) else {
         say(rt, "", "no memory is left");
         return ExitCode::from(FAILED);
     };
@@ -345,9 +428,26 @@ fn obey(rt: &HostRuntime, given: &[String], files: &[String], asked: &Asked) -> 
             if let Some((misuse, word)) = year_misuse(asked, files) {
                 return report_misuse(rt, reading_line(misuse), word);
             }
+            if asked.zone.is_some() && asked.offset.is_some() {
+                return report_misuse(rt, reading_line(ReadingMisuse::ZoneAndOffset), "");
+            }
             match (reader_asked(asked), style_of(asked, &request)) {
                 (Ok(reader), Ok(to)) => {
-                    let choice = choice_of(asked, years.as_slice(), given);
+                    let zone = match &asked.zone {
+                        Some(name) => match zone_named(rt, name) {
+                            Some(zone) => Some(zone),
+                            None => return ExitCode::from(FAILED),
+                        },
+                        None => None,
+                    };
+                    let Ok(reader) = in_zone(rt.alloc(), reader, zone.as_ref()) else {
+                        say(rt, "", "no memory is left");
+                        return ExitCode::from(FAILED);
+                    };
+                    let choice = choice_of(asked, zone.as_ref(), years.as_slice(), given);
+                    if let Request::Cut(cut) = request {
+                        return cut_files(rt, cut, reader, &zone, choice, asked, files);
+                    }
                     run(rt, job_of(request, reader, to), choice, files)
                 }
                 (Err(misuse), _) | (_, Err(misuse)) => {
@@ -359,22 +459,140 @@ fn obey(rt: &HostRuntime, given: &[String], files: &[String], asked: &Asked) -> 
             report_misuse(
                 rt,
                 misuse_line(misuse),
-                word_at_fault(given, words.as_slice(), misuse),
+                word_at_fault(given, asked, words.as_slice(), misuse),
             )
         }
     }
 }
 
+// Cuts the files, once the instants of the bounds are known.
+fn cut_files(
+    rt: &HostRuntime,
+    cut: Cut,
+    reader: Reader,
+    zone: &Option<OwnedZone>,
+    given: Given<'_>,
+    asked: &Asked,
+    files: &[String],
+) -> ExitCode {
+    let mut task = reading_task(reader);
+    let last = if needs_last(cut) {
+        match last_of_files(rt, &task, given, files) {
+            Ok(last) => last,
+            Err(status) => return ExitCode::from(status),
+        }
+    } else {
+        None
+    };
+    let around = Around {
+        offset: match offset_asked(bytes_if(&asked.offset)) {
+            Ok(offset) => offset,
+            Err(_) => None,
+        },
+        present: if needs_now(cut) { now_of(rt) } else { None },
+        last,
+    };
+    match action_of(cut, zone, &around) {
+        Ok(action) => {
+            if asked.is_verbose {
+                say_action(rt, &action);
+            }
+            task.action = action;
+            run(rt, Job::Work(task), given, files)
+        }
+        Err(fault) => report_misuse(
+            rt,
+            no_cut_line(fault),
+            bound_at_fault(cut, fault, zone, &around, given.words, asked),
+        ),
+    }
+}
+
+// The present instant, if the clock of the system tells it.
+fn now_of(rt: &HostRuntime) -> Option<UtcDateTime> {
+    let Ok(now) = SystemTime::now(rt) else {
+        return None;
+    };
+    let Ok(since) = now.duration_since(UNIX_EPOCH) else {
+        return None;
+    };
+    let Ok(seconds) = i64::try_from(since.as_secs()) else {
+        return None;
+    };
+    let Ok(at) = UtcDateTime::from_unix_timestamp(seconds) else {
+        return None;
+    };
+    at.checked_add(SignedDuration::nanoseconds(since.subsec_nanos() as i64))
+}
+
+// The bound that has no instant: the first of the words unless that has one.
+fn bound_at_fault<'a>(
+    cut: Cut,
+    fault: NoCut,
+    zone: &Option<OwnedZone>,
+    around: &Around,
+    given: &'a [String],
+    asked: &'a Asked,
+) -> &'a str {
+    let place = match cut {
+        _ if fault == NoCut::Swapped => return "",
+        Cut::Between(first, _) if bound_instant(first, zone, around).is_ok() => 2,
+        Cut::Since(_) | Cut::Until(_) | Cut::Between(_, _) => 1,
+    };
+    match (given.get(place), &asked.until) {
+        (Some(word), _) => word.as_str(),
+        (None, Some(bound)) => bound.as_str(),
+        (None, None) => "",
+    }
+}
+
+// Says between which instants lines are written.
+fn say_action(rt: &HostRuntime, action: &Action) {
+    match action {
+        Action::Since(from) => say_instant(rt, "from", *from),
+        Action::Until(to) => say_instant(rt, "before", *to),
+        Action::Between(from, to) => {
+            say_instant(rt, "from", *from);
+            say_instant(rt, "before", *to);
+        }
+        Action::Write(_, _) | Action::Check(_) | Action::CheckAll(_) | Action::Gaps(_, _) => {}
+    }
+}
+
+// Says an instant after a word.
+fn say_instant(rt: &HostRuntime, word: &str, instant: UtcDateTime) {
+    if let Some(text) = text_in(&Style::Utc, instant) {
+        let _ = eprintln!(rt; "stamps: {word} {}", text.as_str());
+    }
+}
+
 // The word at fault: the last of the shortest beginning of the words that is refused for this reason.
-fn word_at_fault<'a>(given: &'a [String], words: &[&[u8]], misuse: Misuse) -> &'a str {
-    for (count, word) in given.iter().enumerate() {
+fn word_at_fault<'a>(
+    given: &'a [String],
+    asked: &'a Asked,
+    words: &[&[u8]],
+    misuse: Misuse,
+) -> &'a str {
+    for (count, _) in words.iter().enumerate() {
         if count < words.len()
             && matches!(request_of(&words[..=count]), Err(found) if found == misuse)
         {
-            return word.as_str();
+            return word_at(given, asked, count);
         }
     }
     ""
+}
+
+// The word of the request at a place: behind those that are given are `--until` and its value.
+fn word_at<'a>(given: &'a [String], asked: &'a Asked, place: usize) -> &'a str {
+    match given.get(place) {
+        Some(word) => word.as_str(),
+        None if place == given.len() => "--until",
+        None => match &asked.until {
+            Some(bound) => bound.as_str(),
+            None => "",
+        },
+    }
 }
 
 // The words as bytes.
@@ -412,13 +630,18 @@ enum Job {
 // The job of a request, by how stamps are read.
 fn job_of(request: Request, reader: Reader, to: Option<Style>) -> Job {
     match request {
-        Request::Help | Request::Version => Job::Nothing,
-        Request::Work(action) => Job::Work(Task { action, reader }),
+        Request::Help | Request::Version | Request::Cut(_) => Job::Nothing,
+        Request::Work(action) => Job::Work(Task {
+            action,
+            reader,
+            anew: None,
+        }),
         Request::Count(clock, shows_all, is_strict) => Job::Count(
             ClockBuckets {
                 clock,
                 shows_all,
                 reader,
+                anew: None,
             },
             is_strict,
         ),

@@ -2,25 +2,31 @@
 ghost use Rattle.std.specs.Prelude.{◌≡◌, [], ◌∷◌, ◌++◌, false, length, OnErr, OnOk};
 ghost use Rattle.line_merges.specs.Logs.{new_log};
 ghost use Rattle.line_merges.specs.Runs.{AreNew};
+ghost use Rattle.stamps.specs.Changes.{first_choice};
+ghost use Rattle.stamps.specs.LogReadings.{first_choices};
 ghost use Rattle.stamps.specs.MergeFaults.{merge_status};
 
+use crate::changes::Choice;
 use crate::files::is_compressed;
 use crate::finding::{Cause, Finding};
-use crate::first_lines::{Given, reader_chosen, reader_or};
-use crate::fronted::{Turned, Turning};
-use crate::instants::StampInstants;
+use crate::first_lines::{Given, reader_chosen, reader_or, say_changes};
+use crate::fronted::{Turned, Turning, value_reader};
+use crate::instants::{LogReader, StampInstants, own_or};
 use crate::readers::Reader;
 use crate::reading::ReadingMisuse;
+use crate::restyled::Restyled;
 use crate::sources::{FAILED, Input, clear_progress, say, say_compressed, say_unwritten};
 use crate::tallies::tell_tally;
 use crate::task::Style;
+use crate::watches::{tell_clocks, watch_input};
 use line_devices::devices::{Device, Source};
 use line_merges::logs::Log;
 use line_merges::merges::{MergeFault, add, merge};
 use std::alloc::AllocError;
 
 /// Merges the files, or writes standard input where there are none, and returns the exit status.
-/// The words are those before the files. With a style, each line has its stamp in front, in it.
+/// The words are those before the files. With a style, each line has its stamp in it: in front, or
+/// in its place in a record of JSON.
 pub fn run(
     rt: &HostRuntime,
     reader: Reader,
@@ -57,11 +63,19 @@ pub fn run(
         };
         let said = if names.is_empty() { "" } else { name };
         let mut own = match reader_chosen(rt, given, &instants.reader, said, &mut input) {
-            Ok(own) => own,
+            Ok(chosen) => LogReader {
+                chosen,
+                other: None,
+            },
             Err(status) => return status,
         };
         shows_progress |= input.inner().shows_progress();
-        let Ok(turning) = turning_of(&to, &mut own, given) else {
+        let first = own_or(&own.chosen.reader, &instants.reader);
+        if watch_input(rt.alloc(), &mut input, first, own.chosen.anew).is_err() {
+            say(rt, said, "no memory is left");
+            return FAILED;
+        }
+        let Ok(turning) = turning_of(rt, &to, &mut own, given) else {
             return FAILED;
         };
         let input = Turned::new(input, turning, rt.alloc());
@@ -71,7 +85,19 @@ pub fn run(
         }
     }
     let mut writer = Device::new(rt.stdout());
-    let ended = merge(&instants, is_strict, logs.as_mut_slice(), &mut writer);
+    let mut ended;
+    match to {
+        Some(Style::Unix) => {
+            let mut restyled = Restyled::new(writer, Style::Unix);
+            ended = merge(&instants, is_strict, logs.as_mut_slice(), &mut restyled);
+            let (device, has_failed) = restyled.end();
+            writer = device;
+            if has_failed {
+                ended = Err(MergeFault::Write);
+            }
+        }
+        _ => ended = merge(&instants, is_strict, logs.as_mut_slice(), &mut writer),
+    }
     if shows_progress {
         clear_progress(rt);
     }
@@ -82,31 +108,45 @@ pub fn run(
     let mut is_found = false;
     for (k, log) in logs.iter().enumerate() {
         let (name, place) = (name_of(names, k), &log.front.place);
+        if !given.is_quiet {
+            say_changes(rt, name, log.reader.inner().choice());
+            say_changes(rt, name, &log.memory);
+        }
         if let Some(line) = place.back {
             is_found = true;
             say_back(rt, name, line);
         }
         if ended.is_ok() {
             is_found |= tell_tally(rt, name, &place.stamps, given.is_quiet) > 0;
+            tell_clocks(rt, name, given, log.reader.inner().inner().inner().clocks());
         }
     }
     merge_status(&ended, is_found)
 }
 
-// How a log gets its stamps in front, if a style is given. Then the merge reads RFC 3339 in front, and the log is read as before.
+// How a log gets its stamps in a style, if one is given. Then the merge reads RFC 3339 in front, or the form of the style in
+// records of JSON, and the log is read as before.
 fn turning_of(
+    rt: &HostRuntime,
     to: &Option<Style>,
-    own: &mut Option<Reader>,
+    own: &mut LogReader,
     given: Given<'_>,
 ) -> Result<Option<Turning>, ReadingMisuse> {
-    let Some(style) = to else {
-        return Ok(None);
+    let (style, value_style) = match to {
+        // What is merged has stamps in UTC in front. The output turns them into Unix seconds.
+        Some(Style::Unix) => (Style::Utc, Style::Unix),
+        Some(style) => (*style, *style),
+        None => return Ok(None),
     };
-    let reader = reader_or(own.take(), given)?;
-    *own = Some(Reader::Plain);
+    let reader = reader_or(rt, own.chosen.reader.take(), given)?;
+    own.chosen.reader = Some(Reader::Plain);
+    own.other = value_reader(&value_style, &reader);
     Ok(Some(Turning {
-        style: *style,
+        style,
+        value_style,
+        other: value_reader(&value_style, &reader),
         reader,
+        anew: own.chosen.anew.take(),
     }))
 }
 
@@ -114,24 +154,25 @@ fn turning_of(
 // Fails only if no memory is left, and then the logs and these stay the same.
 fn add_log<R: Source + Drop>(
     instants: &mut StampInstants,
-    logs: &mut Vec<Log<R>>,
-    own: Option<Reader>,
+    logs: &mut Vec<Log<R, Choice>>,
+    own: LogReader,
     reader: R,
 ) -> Result<(), AllocError>
     requires reader { R.is_marked reader ≡ false }
-    requires logs { AreNew R.left R.is_marked logs.old.items }
+    requires logs { AreNew first_choices R.left R.is_marked logs.old.items }
     requires numbers { length instants.old.chosen.items ≡ length logs.old.items }
-    ensures log { OnOk result (logs.new.items ≡ logs.old.items ++ new_log reader ∷ []) }
+    ensures log { OnOk result
+        (logs.new.items ≡ logs.old.items ++ new_log reader first_choice ∷ []) }
     ensures own { OnOk result (instants.new.chosen.items ≡ instants.old.chosen.items ++ own ∷ []) }
     ensures same_logs { OnErr result (logs.new.items ≡ logs.old.items) }
     ensures same_own { OnErr result (instants.new.chosen.items ≡ instants.old.chosen.items) }
     ensures words { instants.new.reader ≡ instants.old.reader }
-    ensures new { AreNew R.left R.is_marked logs.new.items }
+    ensures new { AreNew first_choices R.left R.is_marked logs.new.items }
     ensures numbers { length instants.new.chosen.items ≡ length logs.new.items }
 {
     let before = instants.chosen.len();
     instants.chosen.push(own)?;
-    let added = add(logs, reader);
+    let added = add(logs, reader, Choice::new());
     if added.is_err() {
         instants.chosen.truncate(before);
     }

@@ -1,14 +1,18 @@
 //! Readers of the stamps of lines.
-ghost use Rattle.std.specs.Prelude.{◌≡◌, ◌≤◌, ◌<◌, ◌+◌, ◌^◌, drop, length};
+ghost use Rattle.std.specs.Prelude.{◌≡◌, ◌≤◌, ◌<◌, ◌+◌, ◌^◌, ℤ, IfSome, Ok, Option, drop, length};
+ghost use Rattle.std.specs.Result.{result_ok};
 ghost use Rattle.stamps.specs.LineStamps.{has_mark, mark_length};
 ghost use Rattle.stamps.specs.Readers.{form_stamp, formed_at, in_line, is_json, is_quote, json_kind, line_stamp, plain_at, value_kind};
+ghost use Rattle.stamps.specs.declared.readers.Reader.TheVariants.{Plain};
 
 use crate::decide::{Stamp, byte_at, front_of, has_mark, stamp_of};
+use crate::zoned::assumed_stamp;
 use format_descriptions::ValueRefusal;
 use line_devices::table::Table;
-use log_forms::{Assumed, Form, Place, Stamp as FormStamp, StampRefusal, assumed_after, stamp_at};
+use log_forms::{Assumed, Form, Place, Stamp as FormStamp, StampRefusal, assumed_after};
 use rfc3339::{Component, TextRefusal};
 use utc_times::UtcDateTime;
+use zones::OwnedZone;
 
 /// The most bytes of the text or the name of a place.
 pub const MOST_TEXT: usize = 255;
@@ -27,6 +31,8 @@ pub struct FormReader {
     pub text: PlaceText,
     /// The offset and the year where the form lacks them.
     pub assumed: Assumed,
+    /// The time zone of stamps without an offset, in place of the assumed offset.
+    pub zone: Option<OwnedZone>,
 }
 
 /// A reader of stamps.
@@ -92,6 +98,39 @@ pub fn line_stamp(
     }
 }
 
+/// The stamp of a line that begins with a date-time of RFC 3339, by whether it is the first line.
+/// None if the reader reads other lines.
+#[inline(always)]
+pub fn plain_stamp(reader: &Reader, is_first: bool, line: &[u8]) -> Option<LineStamp>
+    ensures stamp { IfSome result (λ stamp. (last : Option ℤ)
+        → line_stamp reader.now last is_first line.now ≡ Ok stamp) }
+    ensures plain { reader.now ≡ Plain → (last : Option ℤ)
+        → result ≡ result_ok (line_stamp reader.now last is_first line.now) }
+{
+    let Reader::Plain = reader else {
+        return None;
+    };
+    let before = mark_length(is_first, line);
+    match stamp_of(&line[before..]) {
+        Ok(stamp) => Some(at_front(before, &stamp)),
+        Err(_) => None,
+    }
+}
+
+// The stamp of a line with this many bytes before it.
+#[inline(always)]
+fn at_front(before: usize, stamp: &Stamp) -> LineStamp
+    ensures { plain_at before (Ok stamp.now) ≡ Ok result }
+{
+    LineStamp {
+        instant: stamp.instant,
+        start: before,
+        length: stamp.length,
+        is_zoned: stamp.is_zoned,
+        is_value: false,
+    }
+}
+
 // The number of the bytes of a byte order mark that the line begins with, which only the first line may.
 #[inline(always)]
 pub(crate) fn mark_length(is_first: bool, line: &[u8]) -> usize
@@ -107,13 +146,7 @@ fn plain_at(before: usize, stamp: Result<Stamp, TextRefusal>) -> Result<LineStam
     ensures { result ≡ plain_at before stamp }
 {
     match stamp {
-        Ok(stamp) => Ok(LineStamp {
-            instant: stamp.instant,
-            start: before,
-            length: stamp.length,
-            is_zoned: stamp.is_zoned,
-            is_value: false,
-        }),
+        Ok(stamp) => Ok(at_front(before, &stamp)),
         Err(TextRefusal::Syntax) => Err(LineRefusal::Absent),
         Err(TextRefusal::OutOfRange(component)) => Err(LineRefusal::OutOfRange(component)),
     }
@@ -132,9 +165,8 @@ fn form_stamp(
         (form_stamp reader.now last (drop before line.now)) }
 {
     let assumed = assumed_after(&reader.assumed, last);
-    let text = reader.text.items();
     let line = &line[before..];
-    match stamp_at(&reader.form, reader.place, text, &assumed, line) {
+    match assumed_stamp(reader, &assumed, line) {
         Ok(stamp) => Ok(in_line(before, value_kind(reader.place, line, &stamp), &stamp)),
         Err(StampRefusal::Absent) => Err(LineRefusal::Absent),
         Err(StampRefusal::Part(refusal)) => Err(LineRefusal::Part(refusal)),
@@ -154,7 +186,7 @@ fn value_kind(place: Place, line: &[u8], stamp: &FormStamp) -> ValueKind
 }
 
 // Whether a place is a member of JSON.
-fn is_json(place: Place) -> bool
+pub(crate) fn is_json(place: Place) -> bool
     ensures { result ≡ is_json place }
 {
     match place {

@@ -31,8 +31,14 @@ pub enum Step {
     Year,
     /// `--to`.
     To,
+    /// `--zone`.
+    Zone,
+    /// `--until`.
+    Until,
     /// `--quiet`.
     Quiet,
+    /// `--verbose`.
+    Verbose,
     /// `--list-forms`.
     List,
     /// The value of the option before it.
@@ -57,8 +63,14 @@ pub fn is_valued(step: Step) -> bool
     ensures { result ≡ is_valued step }
 {
     match step {
-        Step::Form | Step::Place | Step::Offset | Step::Year | Step::To => true,
-        Step::Word | Step::Quiet | Step::List | Step::Value | Step::File => false,
+        Step::Form
+        | Step::Place
+        | Step::Offset
+        | Step::Year
+        | Step::To
+        | Step::Zone
+        | Step::Until => true,
+        Step::Word | Step::Quiet | Step::Verbose | Step::List | Step::Value | Step::File => false,
     }
 }
 
@@ -78,8 +90,14 @@ pub fn kind_of(word: &[u8]) -> Step
         Step::Year
     } else if is(word, "--to") {
         Step::To
+    } else if is(word, "--zone") {
+        Step::Zone
+    } else if is(word, "--until") {
+        Step::Until
     } else if is(word, "--quiet") {
         Step::Quiet
+    } else if is(word, "--verbose") {
+        Step::Verbose
     } else if is(word, "--list-forms") {
         Step::List
     } else {
@@ -126,6 +144,14 @@ pub enum ReadingMisuse {
     ToAlone,
     /// `--to` is given twice.
     ToTwice,
+    /// `--zone` is given twice.
+    ZoneTwice,
+    /// `--until` is given twice.
+    UntilTwice,
+    /// `--zone` and `--offset` are given.
+    ZoneAndOffset,
+    /// No memory is left for a time zone.
+    NoMemory,
 }
 
 /// The misuse of an option that is given twice.
@@ -137,6 +163,8 @@ pub fn twice_of(option: Step) -> ReadingMisuse
         Step::Place => ReadingMisuse::PlaceTwice,
         Step::Offset => ReadingMisuse::OffsetTwice,
         Step::To => ReadingMisuse::ToTwice,
+        Step::Zone => ReadingMisuse::ZoneTwice,
+        Step::Until => ReadingMisuse::UntilTwice,
         _ => ReadingMisuse::YearTwice,
     }
 }
@@ -339,15 +367,19 @@ pub(crate) fn whole_reader(
             year,
             month: 0,
         },
+        zone: None,
     }))
 }
 
-/// The style that a word names: `utc`, or an offset.
+/// The style that a word names: `utc`, `unix`, or an offset.
 pub fn style_asked(word: &[u8]) -> Result<Style, ReadingMisuse>
     ensures { result ≡ style_asked word.now }
 {
     if is(word, "utc") {
         return Ok(Style::Utc);
+    }
+    if is(word, "unix") {
+        return Ok(Style::Unix);
     }
     match parse_rfc3339_offset(word) {
         Ok(offset) => Ok(Style::At(offset)),
@@ -397,11 +429,15 @@ pub fn reading_line(misuse: ReadingMisuse) -> &'static str
         ReadingMisuse::OffsetTwice => "--offset is given twice: leave one out",
         ReadingMisuse::YearTwice => "--year is given twice: leave one out",
         ReadingMisuse::To(TextRefusal::Syntax) =>
-            "the style '' is unknown: write utc, or an offset, as +05:30",
+            "the style '' is unknown: write utc, unix, or an offset, as +05:30",
         ReadingMisuse::To(TextRefusal::OutOfRange(_)) =>
             "the offset '' is out of range: write one from -23:59 to +23:59",
         ReadingMisuse::ToAlone =>
-            "--to goes with merge alone: write utc, or at OFFSET, in place of it",
+            "--to goes with merge alone: write utc, unix, or at OFFSET, in place of it",
         ReadingMisuse::ToTwice => "--to is given twice: leave one out",
+        ReadingMisuse::ZoneTwice => "--zone is given twice: leave one out",
+        ReadingMisuse::UntilTwice => "--until is given twice: leave one out",
+        ReadingMisuse::ZoneAndOffset => "--zone and --offset are given: leave one out",
+        ReadingMisuse::NoMemory => "no memory is left",
     }
 }

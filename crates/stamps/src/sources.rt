@@ -4,7 +4,9 @@ ghost use Rattle.line_devices.specs.Device.{is_pipe_closed};
 ghost use Rattle.stamps.specs.Faults.{unwritten_status};
 
 use crate::ahead::Ahead;
+use crate::clock_tallies::ClockTally;
 use crate::files::Packing;
+use crate::watches::Watch;
 use line_devices::devices::Device;
 use std::fs::{File, metadata};
 use std::io;
@@ -44,6 +46,7 @@ pub struct Input<'a> {
     rt: &'a HostRuntime,
     origin: Origin,
     progress: Option<Progress>,
+    watch: Option<Watch>,
 }
 
 impl<'a> Input<'a> {
@@ -77,9 +80,23 @@ impl<'a> Input<'a> {
                 rt,
                 origin,
                 progress,
+                watch: None,
             },
             rt.alloc(),
         )
+    }
+
+    /// Sets what counts the lines whose wall clocks a zone does not show once.
+    pub fn set_watch(&mut self, watch: Option<Watch>) {
+        self.watch = watch;
+    }
+
+    /// The lines whose wall clocks a zone does not show once, if they are counted.
+    pub fn clocks(&self) -> Option<&ClockTally> {
+        match &self.watch {
+            Some(watch) => Some(watch.tally()),
+            None => None,
+        }
     }
 
     /// Whether it shows its progress.
@@ -100,6 +117,13 @@ impl Read for Input<'_> {
         };
         if let Some(progress) = &mut self.progress {
             show(self.rt, progress, count);
+        }
+        if let Some(watch) = &mut self.watch {
+            if count == 0 {
+                watch.end();
+            } else {
+                watch.take(&buffer[..count])?;
+            }
         }
         Ok(count)
     }

@@ -1,8 +1,10 @@
 //! The work of the program: lines in, lines out.
-ghost use Rattle.std.specs.Prelude.{◌≡◌, ℕ, ◌-◌, ◌^◌, ◌<◌, ◌≤◌, ◌⊎◌, true, false, List, [], length, Some, Err, OnOk, IsOk, IfOk, IfSome, IfErr, IsErrOf};
+ghost use Rattle.std.specs.Prelude.{◌≡◌, ℕ, ◌-◌, ◌^◌, ◌<◌, ◌≤◌, ◌⊎◌, true, false, List, [], length, Some, Ok, Err, OnOk, IfOk, IfSome, IfErr, IsErrOf};
 ghost use Rattle.std.specs.Io.KnownBytes.{Appends, Consumes};
 ghost use Rattle.line_devices.specs.Device.{Devices, devices};
 ghost use Rattle.line_devices.specs.Writing.{AppendsBeginning};
+ghost use Rattle.stamps.specs.Decisions.{first_state};
+ghost use Rattle.stamps.specs.declared.lines.Progress.TheVariants.{Kept};
 ghost use Rattle.stamps.specs.Faults.{stamp_fault, status_of, FoundIn};
 ghost use Rattle.stamps.specs.Runs.{input_run, open_run};
 ghost use Rattle.stamps.specs.Tallies.{tally_of};
@@ -54,7 +56,7 @@ pub fn status_of(ended: &Result<StampTally, StampFault>, has_told: bool) -> u8
 const BLOCK: usize = 65_536;
 
 /// Reads lines to the end of the input, and writes of each what the task says. Returns how many of
-/// them have no stamp.
+/// them have no stamp. The work is new, and then has the state after these lines.
 ///
 /// A line ends before a line feed, or with the input. A fault ends the work: `Read` and `Write`
 /// after a failed call of the reader or the writer, and `Found` at the first line that the task
@@ -64,19 +66,23 @@ pub fn stamps<R: Source, W: Sink>(
     task: &Task,
     reader: &mut R,
     writer: &mut W,
+    work: &mut Work,
 ) -> Result<StampTally, StampFault>
+    requires state { work.old.state ≡ first_state task.now }
+    requires progress { work.old.progress ≡ Kept }
+    requires head { work.old.head ≡ [] }
     requires reader { R.is_marked reader.old ≡ false }
     requires writer { W.is_marked writer.old ≡ false }
 
-    // At the end of the input: all of it was read, exactly its output was written, it has no finding, and
-    // the tally is that of its lines.
+    // At the end of the input: all of it was read, exactly its output was written, it has no finding, the
+    // state is the one after it, and the tally is that of its lines.
     ensures end { OnOk result (IfSome (R.left reader.old) (λ _. R.left reader.new ≡ Some [])) }
     ensures written { OnOk result (IfSome (R.left reader.old) (λ input.
         Appends (W.written writer.old) (W.written writer.new) (input_run task.now input).text)) }
-    ensures well { OnOk result (IfSome (R.left reader.old) (λ input.
-        IsOk (input_run task.now input).end)) }
+    ensures state { OnOk result (IfSome (R.left reader.old) (λ input.
+        (input_run task.now input).end ≡ Ok work.new.state)) }
     ensures tally { IfOk result (λ tally. IfSome (R.left reader.old) (λ input.
-        tally ≡ tally_of task.now.reader input)) }
+        tally ≡ tally_of task.now input)) }
     ensures no_read_failed { OnOk result (R.is_marked reader.new ≡ false) }
     ensures no_write_failed { OnOk result (W.is_marked writer.new ≡ false) }
 
@@ -104,10 +110,9 @@ pub fn stamps<R: Source, W: Sink>(
         → (R.is_marked reader.new ≡ false) × (W.is_marked writer.new ≡ false) }
 {
     let mut block = [0u8; BLOCK];
-    let mut work = Work::new(task);
     let mut pending = Pending::new(0);
     'reads: for _turn in 0..u64::MAX {
-        let count = take_block(task, reader, writer, &mut pending, &mut work, &mut block)?;
+        let count = take_block(task, reader, writer, &mut pending, work, &mut block)?;
         if count == 0 {
             return Ok(work.state.tally);
         }

@@ -1,6 +1,7 @@
 //! Reports of lines without a stamp.
 ghost use Rattle.std.specs.Prelude.{◌≡◌};
-ghost use Rattle.stamps.specs.Tallies.{count_text, first_of_more, first_text, many_text, more_text, one_more_text, only_text, tally_status};
+ghost use Rattle.stamps.specs.Tallies.{count_text, first_of_more, first_text, long_first_text, long_text, many_text, more_text, one_more_text, only_text};
+ghost use Rattle.stamps.specs.Tallies.{tally_status};
 
 use calendar_values::Text;
 use line_devices::stamp_tallies::StampTally;
@@ -20,7 +21,57 @@ pub fn tell_tally(rt: &HostRuntime, name: &str, tally: &StampTally, is_quiet: bo
             let _ = eprintln!(rt; "stamps: {name}: {count}{first}{more}");
         }
     }
+    tell_long(rt, name, tally, is_quiet);
     u8::from(tally.is_poor())
+}
+
+/// Reports the lines that have no stamp in their first 65,500 bytes and more bytes than these, if
+/// there are such lines, unless it is to be quiet. Such a line may have a stamp past these bytes.
+pub fn tell_long(rt: &HostRuntime, name: &str, tally: &StampTally, is_quiet: bool) {
+    let Some(line) = tally.first_long else {
+        return;
+    };
+    if is_quiet {
+        return;
+    }
+    let (text, first) = (
+        long_text(tally.long, line),
+        long_first_text(tally.long, line),
+    );
+    let (text, first) = (text.as_str(), first.as_str());
+    let colon = if name.is_empty() { "" } else { ": " };
+    let _ = eprintln!(rt;
+        "stamps: {name}{colon}{text} first 65,500 bytes{first}: put it there, as jq -c '{{time}} + .' does"
+    );
+}
+
+// A long line without a stamp, or the number of several.
+fn long_text(count: u64, line: u64) -> Text
+    ensures { result ≡ long_text count line }
+{
+    let mut text = Text::new();
+    if count == 1 {
+        text.push_bytes(b"line ");
+        text.push_decimal(line);
+        text.push_bytes(b" has no stamp in its");
+    } else {
+        text.push_decimal(count);
+        text.push_bytes(b" lines have no stamp");
+        text.push_bytes(b" in their");
+    }
+    text
+}
+
+// The first of several long lines without a stamp.
+fn long_first_text(count: u64, line: u64) -> Text
+    ensures { result ≡ long_first_text count line }
+{
+    let mut text = Text::new();
+    if count != 1 {
+        text.push_bytes(b", the first is line ");
+        text.push_decimal(line);
+    }
+    text
 }
 
 // How many lines have no stamp, of how many.

@@ -1,5 +1,6 @@
 //! The tasks of the program.
 
+use crate::changes::Anew;
 use crate::readers::Reader;
 use calendar_values::{SignedDuration, UtcOffset};
 use utc_times::UtcDateTime;
@@ -35,6 +36,8 @@ pub enum Action {
     Since(UtcDateTime),
     /// Write those whose instant is before this one.
     Until(UtcDateTime),
+    /// Write those whose instant is not before the first of these, and before the second one.
+    Between(UtcDateTime, UtcDateTime),
 }
 
 /// The task: the work on lines, and how their stamps are read.
@@ -44,4 +47,6 @@ pub struct Task {
     pub action: Action,
     /// How stamps are read.
     pub reader: Reader,
+    /// How their form is chosen anew where it changes, unless words name it.
+    pub anew: Option<Anew>,
 }

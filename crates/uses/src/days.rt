@@ -1,12 +1,12 @@
 //! Days that are counted.
 
-ghost use Rattle.std.specs.Prelude.{◌≡◌, ◌↔◌, ◌<◌, ◌≤◌, ◌+◌, ◌+ℤ◌, ◌-ℤ◌, ◌*ℤ◌, ◌≤ℤ◌, ◌<ℤ◌, pos, IfSome, IsTrue, SomeIff};
+ghost use Rattle.std.specs.Prelude.{◌≡◌, ◌↔◌, ◌<◌, ◌≤◌, ◌+◌, ◌-◌, ◌*◌, ◌%◌, ◌+ℤ◌, ◌-ℤ◌, ◌*ℤ◌, ◌≤ℤ◌, ◌<ℤ◌, pos, IfSome, IsTrue, SomeIff};
 ghost use Rattle.calendar_values.specs.Calendar.{days_in_month, is_leap_year, year_of, month_of, day_of_month_of, day_of_calendar_date};
 ghost use Rattle.calendar_values.specs.Clock.{hour_of, minute_of};
 ghost use Rattle.calendar_values.specs.Range.{IsDay, SomeDay, IsYear};
 ghost use Rattle.calendar_values.specs.Weekday.{weekday_number};
 ghost use Rattle.calendar_values.specs.Weeks.{iso_week_of, iso_year_of, monday_of, weekday_of, weeks_in_year};
-ghost use Rattle.uses.specs.Days.{days_to_work, IsIsoWeek, monday_of_iso_week};
+ghost use Rattle.uses.specs.Days.{days_to_name, days_to_work, IsIsoWeek, monday_of_iso_week};
 
 use calendar_values::{Date, Month, SignedDuration, Time, Weekday, days_in_month};
 
@@ -116,6 +116,52 @@ pub fn next_working_day(date: Date) -> Option<Date>
     ensures working { IfSome result (λ next. weekday_of next < 5) }
 {
     days_after(date, days_to_a_working_day(date))
+}
+
+/// How many days it is to the next day of that name, a week for the name of the date itself.
+pub fn days_to_weekday(date: Date, weekday: Weekday) -> u8
+    ensures value { result ≡ days_to_name (weekday_of date) (weekday_number weekday) }
+    ensures some { 1 ≤ result }
+    ensures few { result ≤ 7 }
+    ensures there { (weekday_of date + result) % 7 ≡ weekday_number weekday }
+{
+    let from = date.weekday().number_days_from_monday();
+    let to = weekday.number_days_from_monday();
+    if from < to { to - from } else { to + 7 - from }
+}
+
+/// The next day of that name, after the date, or None past the range.
+pub fn next_occurrence(date: Date, weekday: Weekday) -> Option<Date>
+    ensures value { SomeDay result (date +ℤ
+        pos (days_to_name (weekday_of date) (weekday_number weekday))) }
+    ensures later { IfSome result (λ next. date <ℤ next) }
+    ensures soon { IfSome result (λ next. next ≤ℤ (date +ℤ pos 7)) }
+    ensures weekday { IfSome result (λ next. weekday_of next ≡ weekday_number weekday) }
+{
+    days_after(date, days_to_weekday(date, weekday))
+}
+
+/// How many days it is to the nth such day of the week after the date.
+pub fn days_to_nth_weekday(date: Date, weekday: Weekday, n: u8) -> u16
+    requires { 1 ≤ n }
+    ensures value { result ≡
+        days_to_name (weekday_of date) (weekday_number weekday) + 7 * (n - 1) }
+    ensures some { 7 * (n - 1) < result }
+    ensures few { result ≤ 7 * n }
+    ensures there { (weekday_of date + result) % 7 ≡ weekday_number weekday }
+{
+    u16::from(days_to_weekday(date, weekday)) + 7 * (u16::from(n) - 1)
+}
+
+/// The nth such day of the week after the date, or None past the range.
+pub fn nth_next_occurrence(date: Date, weekday: Weekday, n: u8) -> Option<Date>
+    requires { 1 ≤ n }
+    ensures value { SomeDay result (date +ℤ
+        pos (days_to_name (weekday_of date) (weekday_number weekday) + 7 * (n - 1))) }
+    ensures later { IfSome result (λ next. date <ℤ next) }
+    ensures weekday { IfSome result (λ next. weekday_of next ≡ weekday_number weekday) }
+{
+    date.checked_add_days(i64::from(days_to_nth_weekday(date, weekday, n)))
 }
 
 /// The same by the day of the week alone. None past the range.

@@ -166,7 +166,6 @@ pub fn same_day_next_month(date: Date) -> Result<Date, ComponentRange>
 }
 
 /// The number of the month of a date, counted from January of the year 0.
-#[tactic(auto, using(calendar_values::specs::MonthLemmas::month_days, calendar_values::specs::SignedArith::signed_casts))]
 pub fn month_number_from_year_0(date: Date) -> i32
     ensures value { result ≡ month_index date }
     ensures not_below { neg_ℤ (pos 13_000_000) ≤ℤ result }

@@ -102,6 +102,13 @@ pub fn is_valid_with_offset(stamp: &[u8]) -> bool
     parse_rfc3339(stamp).is_ok()
 }
 
+/// Whether a stamp of the form has all parts in their ranges.
+pub fn is_in_range(stamp: &[u8]) -> bool
+    ensures { (p : Parts) → IsDateTime stamp.now p → IsTrue result ↔ AreInRange p }
+{
+    parse_rfc3339(stamp).is_ok()
+}
+
 /// Whether a field has a wall clock.
 pub fn is_wall_clock(field: &[u8]) -> bool
     ensures { result ≡ is_ok (reading_as (λ at. at.wall) (date_time_in_utc field.now)) }

@@ -34,6 +34,17 @@ fn expiry_and_retries_are_called(rt: HostRuntime) -> Result<(), Fail> {
 #[test]
 fn midnights_and_starts_are_called(rt: HostRuntime) -> Result<(), Fail> {
     is(&rt, midnight::next_midnight(utc(-1)?), Some(utc(0)?));
+    let (evening, morning) = (Time::from_hms(22, 0, 0)?, Time::from_hms(6, 0, 0)?);
+    is(
+        &rt,
+        midnight::window_length(evening, morning),
+        SignedDuration::hours(8),
+    );
+    is(
+        &rt,
+        midnight::window_length(morning, evening),
+        SignedDuration::hours(16),
+    );
     is(&rt, retry::retry_at(utc(0)?, 3), utc(8)?);
     is(&rt, constants::started_at(None), UtcDateTime::UNIX_EPOCH);
     Ok(())
@@ -553,6 +564,8 @@ fn stamps_are_valid(rt: HostRuntime) -> Result<(), Fail> {
         wall_texts::is_valid_with_offset(b"1990-12-31T23:59:59"),
         false,
     );
+    is(&rt, wall_texts::is_in_range(valid), true);
+    is(&rt, wall_texts::is_in_range(b"1990-02-29T23:59:59Z"), false);
     is(&rt, wall_texts::is_wall_clock(b"1990-12-31T23:59:59"), true);
     is(&rt, wall_texts::is_wall_clock(valid), false);
     Ok(())

@@ -1,6 +1,6 @@
 //! Callers of dates are called: invoices, billing, months and weeks.
 use super::is;
-use calendar_values::{ComponentRange, Date, Month, Time};
+use calendar_values::{ComponentRange, Date, Month, Time, Weekday};
 use offset_times::OffsetDateTime;
 use std::test::Fail;
 use uses::{billing, days, invoices, months, wholes};
@@ -98,6 +98,33 @@ fn weeks_are_counted_on(rt: HostRuntime) -> Result<(), Fail> {
     is(&rt, days::next_working_day(friday), Some(next_monday));
     is(&rt, days::next_week(monday), Some(next_monday));
     is(&rt, days::days_left_in_its_month(monday), 3);
+    Ok(())
+}
+
+#[test]
+fn days_of_a_name_are_found(rt: HostRuntime) -> Result<(), Fail> {
+    let friday = Date::from_calendar_date(2024, Month::March, 1)?;
+    let monday = Date::from_calendar_date(2024, Month::March, 4)?;
+    let third_monday = Date::from_calendar_date(2024, Month::March, 18)?;
+    let next_friday = Date::from_calendar_date(2024, Month::March, 8)?;
+    let nth = days::nth_next_occurrence(friday, Weekday::Monday, 3);
+    is(
+        &rt,
+        days::next_occurrence(friday, Weekday::Monday),
+        Some(monday),
+    );
+    is(
+        &rt,
+        days::next_occurrence(friday, Weekday::Friday),
+        Some(next_friday),
+    );
+    is(&rt, nth, Some(third_monday));
+    is(&rt, days::next_occurrence(Date::MAX, Weekday::Monday), None);
+    is(
+        &rt,
+        days::nth_next_occurrence(Date::MAX, Weekday::Friday, 1),
+        None,
+    );
     Ok(())
 }
 

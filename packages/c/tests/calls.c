@@ -3,6 +3,7 @@
 #include "checks.h"
 
 #include "muxandu_time.h"
+#include "zone_file.h"
 
 static const MuxanduDateTime JUNK = {1, 2, 3, 4, 5, 6, 7, 8};
 
@@ -296,6 +297,17 @@ static void descriptions_read(void) {
         muxandu_parse(MUXANDU_KIND_OFFSET_DATE_TIME, "[unix_timestamp] [offset_hour]", 30, "-1 +01", 6, &out), 6,
         MUXANDU_OK, 0));
     CHECK(is_date_time(out, date_time(1970, 1, 1, 0, 59, 59, 0, 3600)));
+    out = JUNK;
+    CHECK(is_outcome(muxandu_parse_items_front(MUXANDU_KIND_DATE, items, 5, "2023-02-29 INFO", 15, &out), 8,
+                     MUXANDU_REFUSED_RESULT, MUXANDU_REASON_DAY));
+    CHECK(is_outcome(muxandu_parse_items_front(MUXANDU_KIND_DATE, items, 5, "INFO", 4, &out), 0, MUXANDU_REFUSED_SYNTAX,
+                     0));
+    CHECK(is_outcome(muxandu_parse_items_front(MUXANDU_KIND_DATE, items, 6, "2023-02-28", 10, &out), 0,
+                     MUXANDU_REFUSED_UNIT, 0));
+    CHECK(is_date_time(out, JUNK));
+    CHECK(is_outcome(muxandu_parse_items_front(MUXANDU_KIND_DATE, items, 5, "2024-02-29 INFO", 15, &out), 10,
+                     MUXANDU_OK, 0));
+    CHECK(is_date_time(out, date_time(2024, 2, 29, 0, 0, 0, 0, 0)));
     CHECK(is_batch(muxandu_parse_all(MUXANDU_KIND_DATE, items, 5, texts, 32, spans, 4, many, 4), 1,
                    MUXANDU_REFUSED_RESULT));
     CHECK(is_batch(muxandu_parse_all(MUXANDU_KIND_DATE, items, 5, texts, 32, spans, 4, many, 3), 0,
@@ -312,12 +324,104 @@ static void descriptions_read(void) {
     CHECK(is_date_time(many[3], date_time(1999, 12, 31, 0, 0, 0, 0, 0)) && is_date_time(many[1], JUNK));
 }
 
+/* What stands in each byte of a place before a call. */
+#define PAINT 0x2a
+
+/* Whether the second of three items alone was converted, and each byte of the other places is as it was: also those that are
+ * between and behind the fields of a struct. */
+static int are_kept(MuxanduBatch done, const void *out, size_t size, const MuxanduStatus *statuses) {
+    const char *first = MUXANDU_CAST(const char *, out);
+    int is_told = done.count == 1 && done.status == MUXANDU_OK && statuses[1] == MUXANDU_OK;
+    return is_told && statuses[0] != MUXANDU_OK && statuses[2] != MUXANDU_OK && !is_filled(first + size, size, PAINT) &&
+           is_filled(first, size, PAINT) && is_filled(first + 2 * size, size, PAINT);
+}
+
+/* Calls that go on after an error leave the place of an item that fails. */
+static void failed_items_keep_their_bytes(void) {
+    static const char texts[] = "2023-02-29T00:00:00Z,2024-02-29T00:00:00Z,2024-02-29_00:00:00Z";
+    static const char days[] = "2023-02-29,2024-02-29,2024-02_29";
+    static const MuxanduSpan at[] = {{0, 20}, {21, 20}, {42, 20}}, at_days[] = {{0, 10}, {11, 10}, {22, 10}};
+    static const int32_t offsets[] = {0, 3600, 0};
+    int64_t seconds[] = {INT64_MIN, 0, INT64_MAX}, made[3];
+    MuxanduMoment moments[] = {{0, 1000000000, 0}, {0, 0, 3600}, {0, 0, 93600}},
+                  others[] = {{0, 0, 0}, {-9, 9, 0}, {0, 0, 0}};
+    MuxanduDateTime shown[3], given[3];
+    MuxanduMoment moved[3];
+    MuxanduDuration lengths[3];
+    int32_t orders[3];
+    MuxanduStatus told[3];
+    MuxanduItem items[5];
+    CHECK(muxandu_description_parse(2, DAY_FORM, strlen(DAY_FORM), items, 5).size == 5);
+    memset(given, 0, sizeof given);
+    given[1] = date_time(2024, 2, 29, 0, 0, 0, 0, 0);
+#define KEEPS(call, out) (memset(out, PAINT, sizeof out), are_kept(call, out, sizeof *out, told))
+    CHECK(KEEPS(muxandu_date_times_from_each_second(seconds, 3, 0, shown, 3, told, 3), shown));
+    CHECK(KEEPS(muxandu_seconds_from_each_date_time(given, 3, made, 3, told, 3), made));
+    CHECK(KEEPS(muxandu_date_times_from_each_moment(moments, 3, shown, 3, told, 3), shown));
+    CHECK(KEEPS(muxandu_moments_from_each_date_time(given, 3, moved, 3, told, 3), moved));
+    CHECK(KEEPS(muxandu_each_moment_to_offset(moments, 3, 60, moved, 3, told, 3), moved));
+    CHECK(KEEPS(muxandu_each_moment_truncate(moments, 3, MUXANDU_UNIT_DAY, moved, 3, told, 3), moved));
+    CHECK(KEEPS(muxandu_each_moment_add_months(moments, 3, 1, moved, 3, told, 3), moved));
+    CHECK(KEEPS(muxandu_each_moment_difference(moments, 3, others, 3, lengths, 3, told, 3), lengths));
+    CHECK(KEEPS(muxandu_each_moment_compare(moments, 3, others, 3, orders, 3, told, 3), orders));
+    CHECK(KEEPS(muxandu_moments_from_each_rfc3339(texts, 62, at, 3, moved, 3, told, 3), moved));
+    CHECK(KEEPS(muxandu_date_times_from_each_rfc3339(texts, 62, at, 3, shown, 3, told, 3), shown));
+    CHECK(KEEPS(muxandu_date_times_from_each_local(texts, 62, at, 3, 60, shown, 3, told, 3), shown));
+    CHECK(KEEPS(muxandu_date_times_from_each_local_at(texts, 62, at, 3, offsets, 3, shown, 3, told, 3), shown));
+    CHECK(KEEPS(muxandu_moments_from_each_local(texts, 62, at, 3, 60, moved, 3, told, 3), moved));
+    CHECK(KEEPS(muxandu_moments_from_each_local_at(texts, 62, at, 3, offsets, 3, moved, 3, told, 3), moved));
+    CHECK(KEEPS(muxandu_parse_each(MUXANDU_KIND_DATE, items, 5, days, 32, at_days, 3, shown, 3, told, 3), shown));
+    memset(lengths, 0, sizeof lengths);
+    CHECK(KEEPS(muxandu_each_moment_add(moments, 3, lengths, 3, moved, 3, told, 3), moved));
+    CHECK(KEEPS(muxandu_each_moment_subtract(moments, 3, lengths, 3, moved, 3, told, 3), moved));
+#undef KEEPS
+}
+
+/* The offsets of a file, as Python's zoneinfo has them, and its transitions. */
+static void zones_of_files(void) {
+    static const int64_t seconds[] = {0, 1711846799, 1711846800, 1729990799, 1729990800};
+    static const int32_t offsets[] = {3600, 3600, 7200, 7200, 3600};
+    MuxanduZone zone, other;
+    MuxanduTransition rows[2], row;
+    MuxanduDateTime shown = JUNK;
+    MuxanduZoneInstants found;
+    size_t place, size = sizeof BERLIN - 1;
+    int32_t offset = 7;
+    memset(&zone, 0, sizeof zone);
+    CHECK(is_outcome(muxandu_zone_from_tzif(BERLIN, size, &zone, rows, 0), 1, MUXANDU_REFUSED_BUFFER, 0));
+    CHECK(is_outcome(muxandu_zone_from_tzif(BERLIN, 60, &zone, rows, 2), 60, MUXANDU_REFUSED_SYNTAX,
+                     MUXANDU_REASON_FILE_LENGTH));
+    CHECK(is_outcome(muxandu_zone_from_tzif(BERLIN, size, &zone, rows, 2), 1, MUXANDU_OK, 0));
+    for (place = 0; place < sizeof seconds / sizeof *seconds; place++)
+        CHECK(muxandu_zone_offset_at(zone, rows, 1, stamp(seconds[place], 0), &offset) == MUXANDU_OK &&
+              offset == offsets[place]);
+    CHECK(muxandu_timestamp_to_zone(stamp(1711846800, 5), zone, rows, 1, &shown) == MUXANDU_OK);
+    CHECK(is_date_time(shown, date_time(2024, 3, 31, 3, 0, 0, 5, 7200)));
+    CHECK(muxandu_zone_next_transition(zone, rows, 1, stamp(1711846800, 0), &row) == MUXANDU_OK &&
+          row.second == 1729990800);
+    CHECK(muxandu_zone_previous_transition(zone, rows, 1, stamp(1711846800, 1), &row) == MUXANDU_OK &&
+          row.second == 1711846800);
+    CHECK(muxandu_zone_previous_transition(zone, rows, 1, stamp(1711846800, 0), &row) == MUXANDU_REFUSED_RESULT);
+    CHECK(muxandu_zone_instants_of(zone, rows, 1, date_time(2024, 3, 31, 2, 30, 0, 5, 0), &found) == MUXANDU_OK &&
+          found.count == 0 && found.gap_second == rows[0].second && found.later_seconds == 1711848600);
+    CHECK(muxandu_date_time_at_zone(date_time(2024, 3, 31, 2, 30, 0, 5, 0), zone, rows, 1, MUXANDU_CHOICE_EARLIER,
+                                    &shown) == MUXANDU_OK);
+    CHECK(is_date_time(shown, date_time(2024, 3, 31, 1, 30, 0, 5, 3600)));
+    other = zone;
+    other.first_week = 6;
+    CHECK(muxandu_zone_offset_at(other, rows, 1, stamp(0, 0), &offset) == MUXANDU_REFUSED_ZONE);
+    rows[0].after_is_daylight = 0;
+    CHECK(muxandu_zone_offset_at(zone, rows, 1, stamp(0, 0), &offset) == MUXANDU_REFUSED_ZONE && offset == 3600);
+}
+
 int main(void) {
     ends_at_offsets();
     structs_of_the_c_library();
     batches_in_groups();
+    zones_of_files();
     descriptions_are_kept();
     descriptions_write();
     descriptions_read();
+    failed_items_keep_their_bytes();
     return counted();
 }

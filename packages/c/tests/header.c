@@ -4,9 +4,13 @@
 
 #include "muxandu_time.h"
 
+#include "muxandu_arrow.h"
+
 #include "muxandu.h"
 
 #include "muxandu_time.h"
+
+#include "muxandu_arrow.h"
 
 int main(void) {
     char text[MUXANDU_TEXT_ROOM + 1];
@@ -24,5 +28,14 @@ int main(void) {
         if (muxandu_timestamp_from_timespec(&time, &at) != MUXANDU_OK) return 1;
     }
 #endif
+    {
+        MuxanduMoment moment = {0, 0, 0};
+        struct ArrowSchema schema;
+        struct ArrowArray array;
+        if (muxandu_arrow_from_moments(&moment, 1, NULL, MUXANDU_UNIT_SECOND, &schema, &array).status != MUXANDU_OK)
+            return 1;
+        schema.release(&schema);
+        array.release(&array);
+    }
     return muxandu_date_time_text_z(shown, text, sizeof text) != MUXANDU_OK || muxandu_status_string(1)[0] != 'A';
 }

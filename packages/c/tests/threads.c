@@ -1,5 +1,4 @@
-/* More threads than the portable library has places: each compares its results with those of one
- * thread. Then a call of many items.
+/* Many threads at once: each compares its results with those of one thread. Then a call of many items.
  *
  * The last line is 'N passed, M failed'. */
 #include <pthread.h>
@@ -29,7 +28,7 @@ static void *convert(void *differs) {
     return NULL;
 }
 
-/* More items than the memory of a place has room for. */
+/* A megabyte of items. */
 static void many_items(void) {
     int64_t *given = calloc(MANY, sizeof *given);
     MuxanduDateTime *shown = calloc(MANY, sizeof *shown);

@@ -15,11 +15,12 @@ const sorted = (names) => [...names].sort();
 
 /** The names that a class has, those of its own calls after `static`. */
 function members(made) {
-    const classes = [made, Object.getPrototypeOf(made)].filter((each) => ![Function.prototype, RangeError].includes(each));
+    const classes = [];
+    for (let each = made; ![Function.prototype, RangeError].includes(each); each = Object.getPrototypeOf(each)) classes.push(each);
     const own = classes.flatMap((each) => Object.getOwnPropertyNames(each.prototype)).filter((name) => name !== "constructor");
     const statics = classes.flatMap((each) => Object.getOwnPropertyNames(each));
     const named = statics.filter((name) => !["length", "name", "prototype"].includes(name));
-    return sorted([...own, ...named.map((name) => `static ${name}`)]);
+    return sorted(new Set([...own, ...named.map((name) => `static ${name}`)]));
 }
 
 /** Whether types.ts has a call or a property of that name. */
@@ -51,8 +52,8 @@ for (const [name, made] of Object.entries(muxandu)) {
     test(`the members of ${name}`, () => {
         const [, body] = declared.match(new RegExp(`^export class ${name} [^{]*\\{\\n([^]*?)^\\}`, "m"));
         const names = [...body.matchAll(/^ {4}(static )?(?:readonly )?(\w+)[(?:]/gm)].map(([, before = "", each]) => before + each);
-        // the name of a refusal is kept in each
-        const kept = name === "Refused" ? ["refusal"] : [];
+        // the name of a refusal is kept in each, and where it is and why
+        const kept = name === "Refused" ? ["refusal", "place", "reason"] : [];
         assert.deepEqual(sorted(new Set(names.filter((each) => each !== "constructor"))), sorted([...members(made), ...kept]));
         assert.deepEqual(names.filter((each) => each !== "constructor" && !isUsed(each)), [], "types.ts does not use them");
     });

@@ -1,7 +1,8 @@
 // What index.d.ts declares. `tsc` reads this program, where each call must take and return what is declared; Node runs it, where
 // each value must be of the kind that the program says.
-import { Duration, OffsetDateTime, Refused, Timestamp, daysInMonth, parseOffset } from "muxandu";
-import type { DurationParts, OffsetDateTimeParts, RefusalName, Unit } from "muxandu";
+import { Description, Duration, Moments, OffsetDateTime, PlainDateTime, Refused, Timestamp, Zone, daysInMonth, parseOffset } from "muxandu";
+import type { Disambiguation, DurationParts, Kind, LocalType, MomentParts, OffsetDateTimeParts, ReasonName, RefusalName, Unit } from "muxandu";
+import type { ZoneInstants, ZoneTransition } from "muxandu";
 
 function are(what: string, values: unknown[], is: (value: unknown) => boolean): void {
     for (const value of values) {
@@ -17,6 +18,7 @@ const orders = (...values: (-1 | 0 | 1)[]) => are("order", values, (value) => va
 const dates = (...values: Date[]) => are("Date", values, (value) => value instanceof Date);
 const durations = (...values: Duration[]) => are("Duration", values, (value) => value instanceof Duration);
 const timestamps = (...values: Timestamp[]) => are("Timestamp", values, (value) => value instanceof Timestamp);
+const wallClocks = (...values: PlainDateTime[]) => are("PlainDateTime", values, (value) => value instanceof PlainDateTime);
 const dateTimes = (...values: OffsetDateTime[]) => are("OffsetDateTime", values, (value) => value instanceof OffsetDateTime);
 
 const unit: Unit = "day";
@@ -46,6 +48,7 @@ dateTimes(shown, OffsetDateTime.parse("2024-02-29T00:00:00Z"), new OffsetDateTim
 dateTimes(OffsetDateTime.of({ ...clocks, ...{ year: 2024, month: 2, day: 29, hour: 1, minute: 2, second: 3, nanosecond: 4, offsetSeconds: 5 } }));
 dateTimes(OffsetDateTime.fromDate(date), OffsetDateTime.fromDate(date, 3_600));
 dateTimes(shown.with({ day: daysInMonth(2024, 2) }), shown.toOffset(0), shown.truncate("microsecond"));
+dateTimes(shown.addMonths(1));
 dateTimes(shown.add(parts), shown.subtract(total), shown.saturatingAdd(total), shown.saturatingSubtract(parts));
 const leap = OffsetDateTime.parseLeap("2016-12-31T23:59:60Z");
 dateTimes(leap.dateTime);
@@ -59,6 +62,72 @@ orders(OffsetDateTime.compare(shown, shown));
 dates(shown.toDate());
 bigints(shown.valueOf());
 texts(shown.toRfc3339(), shown.toJSON(), shown.toString());
+
+const wall = PlainDateTime.parse("2024-02-29T12:34:56");
+wallClocks(wall, new PlainDateTime({ year: 2024, month: 2, day: 29 }), PlainDateTime.of({ year: 2024, month: 2, day: 29, hour: 1 }));
+wallClocks(wall.with({ day: 1 }), wall.addMonths(1), wall.truncate(unit), shown.toPlainDateTime());
+wallClocks(wall.add(parts), wall.subtract(total), wall.saturatingAdd(total), wall.saturatingSubtract(parts));
+numbers(wall.year, wall.month, wall.day, wall.hour, wall.minute, wall.second, wall.nanosecond);
+numbers(wall.dayOfYear, wall.weekday, wall.isoWeek, wall.isoYear, wall.dayNumber);
+durations(wall.since(wall));
+truths(wall.equals(wall));
+orders(PlainDateTime.compare(wall, wall));
+bigints(wall.valueOf());
+texts(wall.toRfc3339(), wall.toJSON(), wall.toString());
+
+const zone: Zone = Zone.fromRule("CET-1CEST,M3.5.0,M10.5.0/3"), choice: Disambiguation = "earlier";
+dateTimes(at.toZone(zone), shown.toZone(zone), wall.atOffset(60), wall.atZone(zone), wall.atZone(zone, { disambiguation: choice }));
+const { instants, gap }: ZoneInstants = zone.instantsOf(wall);
+timestamps(...instants);
+if (gap !== null) wallClocks(gap.start, gap.end);
+numbers(zone.offsetAt(at), zone.offsetAt(shown));
+texts(zone.name ?? "", zone.toString());
+const next: ZoneTransition | null = zone.nextTransition(at), previous = zone.previousTransition(shown);
+for (const each of [next, previous]) {
+    if (each === null) throw new Error("no transition");
+    const { offsetSeconds, isDaylight }: LocalType = each.after;
+    timestamps(each.at);
+    numbers(offsetSeconds, each.before.offsetSeconds);
+    truths(isDaylight);
+}
+for (const bytes of [new Uint8Array(5), new ArrayBuffer(5)]) {
+    for (const call of [() => new Zone(bytes), () => Zone.fromBytes(bytes), () => Zone.open("No/Where")]) {
+        try {
+            truths(call() === null);
+        } catch (error) {
+            truths(error instanceof Refused);
+        }
+    }
+}
+
+const kind: Kind = "date";
+const form = new Description("[year]-[month]-[day]");
+texts(form.format(shown), form.toString());
+dateTimes(form.parse("2024-02-29", kind), form.parseFront("2024-02-29 INFO", kind).dateTime);
+texts(form.parseFront("2024-02-29 INFO", kind).rest);
+try {
+    form.parse("2024-02-30", "date");
+} catch (error) {
+    if (!(error instanceof Refused)) throw error;
+    const reason: ReasonName | undefined = error.reason, place: number | undefined = error.place;
+    texts(reason ?? "");
+    numbers(place ?? -1);
+}
+
+const column: Moments = Moments.parse(["2024-02-29T00:00:00Z", null]);
+const columns: Moments[] = [Moments.of([shown, null]), new Moments([shown]), column.add(parts), column.addMonths(1), column.toOffset(60)];
+columns.push(column.truncate(unit), column.toZone(zone), Moments.fromMilliseconds(new Float64Array(2)));
+columns.push(Moments.fromMilliseconds(new BigInt64Array(2), 60), Moments.fromMilliseconds([5, 5n, null]));
+for (const each of columns) numbers(each.length, each.toBytes().length);
+for (const each of columns) {
+    const { year, month, day, hour, minute, second, nanosecond, offsetSeconds }: MomentParts = each.toParts();
+    for (const array of [year, month, day, hour, minute, second, nanosecond, offsetSeconds]) numbers(...array);
+    numbers(...each.toMilliseconds(), ...each.toOffsets(), ...each.toDayNumbers());
+    texts(...each.toRfc3339().map((text: string | null) => text ?? ""));
+}
+for (const each of column) if (each !== null) dateTimes(each);
+const row: OffsetDateTime | null = column.at(0), error: RefusalName | null = column.refusalAt(1);
+truths(row !== null, error === null);
 
 const sorted: Timestamp[] = [at, shown.toTimestamp()].sort(Timestamp.compare);
 timestamps(...sorted);
@@ -96,6 +165,12 @@ export function wrong(): void {
     at.equals(shown);
     // @ts-expect-error: another type
     shown.since(at);
+    // @ts-expect-error: no such choice
+    wall.atZone(zone, { disambiguation: "first" });
+    // @ts-expect-error: a wall clock is no instant
+    zone.offsetAt(wall);
+    // @ts-expect-error: a name is no zone
+    at.toZone("Europe/Berlin");
     // @ts-expect-error: a number is no text
     parseOffset(3_600);
 }

@@ -16,7 +16,7 @@ WHERE proname ~ '^(offset_timestamp|exact_duration)_(timestamptz_)?(lt|le|eq|ne|
 SELECT proname FROM pg_proc p JOIN pg_depend d ON d.objid = p.oid AND d.deptype = 'e' JOIN pg_extension e ON e.oid = d.refobjid
 WHERE extname = 'muxandu' AND prokind = 'f' AND prolang = (SELECT oid FROM pg_language WHERE lanname = 'c')
 AND NOT (provolatile = 'i' AND proisstrict AND proparallel = 's') AND NOT (provolatile = 's' AND proargtypes[0] = 'internal'::regtype)
-AND proname <> 'clock_offset_timestamp';
+AND proname NOT IN ('clock_offset_timestamp', 'at_zone', 'from_local');
 -- a timestamptz has the hash of its instant
 SELECT t, offset_timestamp_hash(t::offset_timestamp) = offset_timestamp_hash_timestamptz(t::timestamptz) AS hash,
     offset_timestamp_hash_extended(t::offset_timestamp, 7) = offset_timestamp_hash_timestamptz_extended(t::timestamptz, 7) AS extended

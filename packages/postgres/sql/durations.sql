@@ -20,6 +20,14 @@ SELECT '1 day 2'::exact_duration;
 SELECT '2 1 day'::exact_duration;
 SELECT '2024-02-29T00:00:00Z'::offset_timestamp + '2024-03-01';
 SELECT d::exact_duration FROM (VALUES (' -1 '), ('1 day -0.5 seconds'), ('1day2hours')) v (d);
+-- the units in short, and ISO 8601: a sign counts up to the next sign or blank
+SELECT d::exact_duration FROM (VALUES ('36h'), ('1h30m'), ('1d'), ('90s'), ('0s'), ('-1h30m'), ('-1 hour 30 minutes'), ('1h-30m'), ('250ms'), ('1us'), ('1µs'), ('1ns'), ('PT36H'), ('P1DT2H'), ('-PT1M0.5S'), (' +P1.5D ')) v (d);
+SELECT '1h30'::exact_duration;
+SELECT 'P1M'::exact_duration;
+SELECT 'PT'::exact_duration;
+SELECT 'P1DT'::exact_duration;
+SELECT '5 days 1 year'::exact_duration;
+SELECT ('0.' || repeat('0', 100) || ' days')::exact_duration, (repeat('0', 100) || '1')::exact_duration;
 SELECT exact_duration_send('-0.5'), exact_duration_send('1 day');
 SELECT a, b, a = b AS eq, a < b AS lt, a <= b AS le, a > b AS gt, a >= b AS ge, a <> b AS ne
 FROM (VALUES ('1 day'::exact_duration, '86400'::exact_duration), ('-0.000000001', '0')) v (a, b);

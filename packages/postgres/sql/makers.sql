@@ -22,8 +22,15 @@ SELECT at_offset('2024-02-28T23:30:00-01:00', '7200');
 SELECT at_offset('2024-02-28T23:30:00-01:00', '');
 SELECT at_offset('2024-02-28T23:30:00-01:00', '+2');
 SELECT at_offset('2024-02-28T23:30:00-01:00', 'Europe/Paris');
-SELECT at_offset('2024-02-28T23:30:00-01:00', '+24:00');
+SELECT at_offset('2024-02-28T23:30:00-01:00', '+26:00');
 SELECT at_offset('2024-02-28T23:30:00-01:00', '+02:60');
+-- an offset with seconds, as the texts of the type have them
+SELECT o, at_offset('1890-01-01T00:00:00Z', o), make_offset_timestamp(1890, 1, 1, 0, 0, 0, o) FROM (VALUES ('+01:19:32'), ('-25:59:59'), ('+00:00:01'), ('-00:00:00')) v (o);
+SELECT at_offset('1890-01-01T00:00:00Z', '+01:19:3');
+SELECT at_offset('1890-01-01T00:00:00Z', '+01:19:60');
+SELECT at_offset('1890-01-01T00:00:00Z', '+26:00:00');
+SELECT at_offset('1890-01-01T00:00:00Z', '.5Z');
+SELECT at_offset('1890-01-01T00:00:00Z', ' +01:19:32');
 SELECT at_offset('9999-12-31T23:59:59Z', '+00:01');
 -- steps: the origin, instants before it, a step below a second, and the answers of timestamptz
 SELECT t, date_bin(step, t::offset_timestamp, origin::offset_timestamp) AS bin, date_bin(step, t::offset_timestamp, origin::offset_timestamp)::timestamptz = date_bin(step::interval, t::timestamptz, origin::timestamptz) AS is_theirs
@@ -95,7 +102,7 @@ SELECT code_of(e), e FROM (VALUES ('4611686018427387904::exact_duration * 2'), (
     ('''0.000000001''::exact_duration * 0.5'), ('1e-10::exact_duration'), ('''NaN''::numeric::exact_duration'), ('avg(d) FROM (VALUES (''9223372036854775807''::exact_duration), (''1'')) v (d)'),
     ('''1 day'' + ''9999-12-31T23:59:59Z''::offset_timestamp'), ('''infinity''::timestamptz - ''2024-02-29T00:00:00Z''::offset_timestamp'), ('interval ''1 year'' + ''2024-02-29T00:00:00Z''::offset_timestamp'),
     ('coalesce(NULL::offset_timestamp, ''-infinity''::timestamptz)'), ('date_bin(''0'', ''2024-02-29T00:00:00Z''::offset_timestamp, ''2024-02-29T00:00:00Z'')'),
-    ('make_offset_timestamp(2023, 2, 29, 0, 0, 0, ''Z'')'), ('make_offset_timestamp(2024, 2, 29, 0, 0, 0.0000000001, ''Z'')'), ('make_offset_timestamp(2024, 2, 29, 0, 0, 0, ''+24:00'')'),
+    ('make_offset_timestamp(2023, 2, 29, 0, 0, 0, ''Z'')'), ('make_offset_timestamp(2024, 2, 29, 0, 0, 0.0000000001, ''Z'')'), ('make_offset_timestamp(2024, 2, 29, 0, 0, 0, ''+26:00'')'),
     ('make_offset_timestamp(2024, 2, 29, 0, 0, 0, ''+2'')'), ('at_offset(''2024-02-29T00:00:00Z'', ''7200'')'), ('''2024-02-29T00:00:00Z''::offset_timestamp - ''1 month'''),
     ('''1 month''::exact_duration'), ('date_part(''day'', ''1''::exact_duration)'), ('''1''::exact_duration / 0')) v (e);
 DROP FUNCTION code_of;

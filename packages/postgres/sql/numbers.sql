@@ -9,6 +9,8 @@ SELECT 'Infinity'::numeric::exact_duration;
 SELECT 9223372036854775808::numeric::exact_duration;
 SELECT 1e300::exact_duration;
 SELECT date_part('EPOCH', '1.5'::exact_duration), date_part('epoch', '-1.5'::exact_duration);
+SELECT extract(epoch FROM '-1.5'::exact_duration), extract(epoch FROM '0.000000001'::exact_duration), extract(epoch FROM '1 day'::exact_duration);
+SELECT extract(day FROM '1 day'::exact_duration);
 SELECT date_part('day', '1.5'::exact_duration);
 -- products are exact or an error, and of numbers of any type that is a numeric
 SELECT d * 2 AS twice, 2 * d AS as_well, d * 0 AS none, d * -1.5 AS back, d * 3::bigint AS of_bigint, 3::smallint * d AS of_smallint, d * '2' AS of_text
@@ -54,3 +56,7 @@ SELECT exact_duration_mean('{3,2}'), exact_duration_enter('{3,2}', '1'), exact_d
 SELECT exact_duration_mean('{3}');
 SELECT exact_duration_mean('{3,NULL}');
 SELECT exact_duration_combine('{3,2}', '{{3,2}}');
+-- a duration without its sign; abs would make abs('1') an error of others
+SELECT d, magnitude(d) FROM (VALUES ('-1.5'::exact_duration), ('1.5'), ('0'), ('-0.000000001'), ('9223372036854775807.999999999'), (NULL)) v (d);
+SELECT magnitude('-9223372036854775808'), abs('-1');
+SELECT avg(magnitude(d)), max(magnitude(d)) FROM (VALUES ('-1'::exact_duration), ('2')) v (d);

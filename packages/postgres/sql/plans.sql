@@ -43,6 +43,13 @@ FROM events, (VALUES ('2024-01-02 00:02:00+00'::timestamptz)) v (t);
 SELECT (SELECT count(*) FROM events WHERE at < t) AS lt, (SELECT count(*) FROM events WHERE at <= t) AS le, (SELECT count(*) FROM events WHERE at = t) AS eq, (SELECT count(*) FROM events WHERE at >= t) AS ge, (SELECT count(*) FROM events WHERE at > t) AS gt
 FROM (VALUES ('2024-01-02 00:02:00+00'::timestamptz)) v (t);
 RESET enable_seqscan;
+-- the rows of a series of known arguments, back and forth, of one without values, and of an unknown one
+CREATE FUNCTION rows_of(query text) RETURNS text LANGUAGE plpgsql AS $$ DECLARE plan json; BEGIN EXECUTE 'EXPLAIN (FORMAT JSON) ' || query INTO plan; RETURN plan -> 0 -> 'Plan' ->> 'Plan Rows'; END $$;
+SELECT step, rows_of(format('SELECT * FROM generate_series(%L::offset_timestamp, %L, %L)', first, last, step)) AS planned, (SELECT count(*) FROM generate_series(first::offset_timestamp, last::offset_timestamp, step::exact_duration)) AS there
+FROM (VALUES ('2024-02-29T00:00:00+14:00', '2024-03-01T00:00:00Z', '1 minute'), ('2024-02-29T00:00:00Z', '2024-02-29T00:00:01Z', '0.1'), ('2024-03-01T00:00:00Z', '2024-02-29T00:00:00Z', '-1 hour'), ('2024-03-01T00:00:00Z', '2024-03-01T00:00:00Z', '1 day')) v (first, last, step);
+SELECT rows_of('SELECT * FROM generate_series(now(), clock_offset_timestamp(), ''1 day'')') AS unknown, rows_of('SELECT * FROM generate_series(''2024-03-01T00:00:00Z''::offset_timestamp, ''2024-02-29T00:00:00Z'', ''1 day'')') AS none,
+    rows_of('SELECT * FROM generate_series(''2024-03-01T00:00:00Z''::offset_timestamp, ''2024-03-02T00:00:00Z'', ''0'')') AS of_no_step;
+DROP FUNCTION rows_of;
 -- a parallel plan
 SET parallel_setup_cost = 0; SET parallel_tuple_cost = 0; SET min_parallel_table_scan_size = 0;
 EXPLAIN (COSTS OFF) SELECT max(at) FROM events;

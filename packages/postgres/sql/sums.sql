@@ -3,6 +3,7 @@ SELECT '2024-02-28T23:30:00-01:00'::offset_timestamp + '90 minutes', '2024-02-28
 SELECT '2024-02-28T23:30:00-01:00'::offset_timestamp + interval '1 month';
 SELECT '9999-12-31T23:59:59Z'::offset_timestamp + '1';
 SELECT '9999-12-31T23:59:59Z'::offset_timestamp + '1' > '9999-12-31T23:59:59Z' AS later;
+SELECT '+999999-12-31T23:59:59+00:01'::offset_timestamp + '1' > '9999-12-31T23:59:59Z' AS later;
 SELECT '2024-02-28T23:30:00-01:00'::offset_timestamp + '9223372036854775807';
 SELECT '2024-03-01T00:00:00Z'::offset_timestamp - '2024-02-28T23:30:00-01:00', '9999-12-31T23:59:59Z'::offset_timestamp - '0000-01-01T00:00:00Z';
 SELECT add_months('2024-01-31T23:30:00-01:00', 1), add_months('2024-02-29T00:00:00Z', -12), add_months('2024-02-29T00:00:00Z', 0);
@@ -24,6 +25,7 @@ SELECT date_part('millennium', '2024-12-30T23:30:05.5-01:00'::offset_timestamp);
 SELECT generate_series('2024-02-28T22:00:00-01:00'::offset_timestamp, '2024-02-29T01:00:00Z', '30 minutes');
 SELECT generate_series('2024-02-29T00:00:00Z'::offset_timestamp, '2024-02-27T00:00:00Z', '-1 day');
 SELECT generate_series('9999-12-31T22:30:00Z'::offset_timestamp, '9999-12-31T23:59:59Z', '1 hour') LIMIT 5;
+SELECT generate_series('+999999-12-31T22:30:00Z'::offset_timestamp, '+999999-12-31T23:59:59Z', '1 hour') LIMIT 5;
 SELECT generate_series('2024-02-29T00:00:00Z'::offset_timestamp, '2024-02-27T00:00:00Z', '0');
 -- a window of a day
 SELECT at, count(*) OVER (ORDER BY at RANGE BETWEEN '1 day' PRECEDING AND CURRENT ROW) AS day,

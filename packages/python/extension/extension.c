@@ -14,6 +14,10 @@
 
 #include "to_python.h"
 
+#include "gaps.h"
+
+#include "zones.h"
+
 /* Functions. */
 
 /* Where the items of a buffer begin. */
@@ -39,6 +43,16 @@ static PyObject *bind(PyObject *self, PyObject *const *words, Py_ssize_t count) 
         Py_XDECREF(*places[place]);
         *places[place] = words[place];
     }
+    Py_RETURN_NONE;
+}
+
+/* Takes the function that finds a zone of a class by its name. */
+static PyObject *bind_zones(PyObject *self, PyObject *find) {
+    Module *module = OWNER_OF_FUNCTION(self);
+    PyObject *before = module->find_zone;
+    Py_INCREF(find);
+    module->find_zone = find;
+    Py_XDECREF(before);
     Py_RETURN_NONE;
 }
 
@@ -104,6 +118,34 @@ static PyObject *texts_from_timestamps(PyObject *self, PyObject *const *words, P
     return texts ? Py_BuildValue("(NI)", texts, status) : NULL;
 }
 
+/* A list of the texts at the spans of a block of ASCII, with None for each that has a status in a
+ * third buffer. */
+static PyObject *texts_at_spans(PyObject *self, PyObject *const *words, Py_ssize_t count) {
+    Items block = {0}, spans = {0}, statuses = {0};
+    PyObject *texts = NULL;
+    size_t place;
+    (void)self;
+    if (!are("texts_at_spans", count, 6)) return NULL;
+    if (take_items(words, &block, 0) && take_items(words + 2, &spans, 0) && take_items(words + 4, &statuses, 0))
+        texts = PyList_New((Py_ssize_t)spans.count);
+    for (place = 0; texts && place < spans.count; place++) {
+        MuxanduSpan span = ((const MuxanduSpan *)spans.at)[place];
+        PyObject *text = Py_None;
+        if (place < statuses.count && ((const uint32_t *)statuses.at)[place]) {
+            Py_INCREF(text);
+        } else if (span.start > block.count || span.length > block.count - span.start) {
+            text = NULL, PyErr_SetString(PyExc_ValueError, "a span must lie in its block");
+        } else {
+            text = PyUnicode_DecodeASCII((const char *)block.at + span.start, (Py_ssize_t)span.length, NULL);
+        }
+        if (!text || PyList_SetItem(texts, (Py_ssize_t)place, text) < 0) Py_CLEAR(texts);
+    }
+    drop_items(&block);
+    drop_items(&spans);
+    drop_items(&statuses);
+    return texts;
+}
+
 /* How many moments become objects by one call of the library. */
 enum { MOMENTS_AT_ONCE = 128 };
 
@@ -123,7 +165,7 @@ static PyObject *items_from_moments(PyObject *self, PyObject *const *words, Py_s
         uint32_t statuses[MOMENTS_AT_ONCE];
         const MuxanduMoment *rows = (const MuxanduMoment *)items.at + start;
         size_t size = items.count - start < MOMENTS_AT_ONCE ? items.count - start : MOMENTS_AT_ONCE, place;
-        muxandu_date_times_from_each_moment(rows, size, shown, size, statuses, size);
+        (void)muxandu_date_times_from_each_moment(rows, size, shown, size, statuses, size);
         for (place = 0; list && place < size; place++) {
             int is_gap = rows[place].seconds == INT64_MIN;
             PyObject *item = words[2];
@@ -144,33 +186,47 @@ static PyObject *items_from_moments(PyObject *self, PyObject *const *words, Py_s
     return list ? Py_BuildValue("(NI)", list, status) : NULL;
 }
 
-/* Writes the moment of each item of a list, and a gap for None and for the third word. Returns how
- * many it wrote: an item of another type, and an instant outside the range, end it. */
+/* The moment of a text of RFC 3339. 0 for a text of another form, and for one that is not ASCII. */
+static int moment_of_text(PyObject *text, MuxanduMoment *out) {
+    Py_ssize_t size;
+    const char *bytes = PyUnicode_AsUTF8AndSize(text, &size);
+    MuxanduSpan span = {0, 0};
+    if (!bytes) return PyErr_Clear(), 0;
+    span.length = (size_t)size;
+    return muxandu_moments_from_rfc3339(bytes, (size_t)size, &span, 1, out, 1).count == 1;
+}
+
+/* The moment of an item: of a date-time, of an instant, or of a text of RFC 3339, and a gap for
+ * None, for NaN and for a word. 0 for another item, and for an instant outside the range. */
+static int moment_of_item(Module *module, PyObject *item, PyObject *gap, MuxanduMoment *out) {
+    PyTypeObject *type = Py_TYPE(item), **types = module->types;
+    MuxanduTimestamp at = {INT64_MIN, 0};
+    int32_t offset = 0;
+    if (PyUnicode_Check(item)) return moment_of_text(item, out);
+    if (type == types[kind_OffsetDateTime] || type == types[kind_UtcDateTime]) {
+        if (!has_instant(item, &at)) return 0;
+        offset = VALUE(Clock, item).offset_seconds;
+    } else if (type == types[kind_Timestamp]) {
+        at = VALUE(Timestamp, item);
+    } else if (item != Py_None && item != gap && !(PyFloat_Check(item) && isnan(PyFloat_AsDouble(item)))) {
+        return 0;
+    }
+    out->seconds = at.seconds, out->nanoseconds = at.nanoseconds, out->offset_seconds = offset;
+    return 1;
+}
+
+/* Writes the moment of each item of a list, up to one that has none, and returns how many these
+ * are. */
 static PyObject *moments_from_items(PyObject *self, PyObject *const *words, Py_ssize_t count) {
     Module *module = OWNER_OF_FUNCTION(self);
-    PyTypeObject **types = module->types;
     Py_buffer view;
-    Py_ssize_t done, size = count == 3 ? PyList_Size(words[0]) : -1;
-    MuxanduMoment *rows;
+    Py_ssize_t done = 0, size = count == 3 ? PyList_Size(words[0]) : -1;
     if (!are("moments_from_items", count, 3) || size < 0) return NULL;
     if (PyObject_GetBuffer(words[1], &view, PyBUF_WRITABLE) < 0) return NULL;
-    if (view.len / (Py_ssize_t)sizeof *rows < size) size = view.len / (Py_ssize_t)sizeof *rows;
-    rows = view.buf;
-    for (done = 0; done < size; done++) {
-        PyObject *item = PyList_GetItem(words[0], done);
-        PyTypeObject *type = item ? Py_TYPE(item) : NULL;
-        MuxanduTimestamp at = {INT64_MIN, 0};
-        int32_t offset = 0;
-        if (type == types[kind_OffsetDateTime] || type == types[kind_UtcDateTime]) {
-            if (!has_instant(item, &at)) break;
-            offset = VALUE(Clock, item).offset_seconds;
-        } else if (type == types[kind_Timestamp]) {
-            at = VALUE(Timestamp, item);
-        } else if (item != Py_None && item != words[2]) {
-            break;
-        }
-        rows[done].seconds = at.seconds, rows[done].nanoseconds = at.nanoseconds, rows[done].offset_seconds = offset;
-    }
+    if (view.len / (Py_ssize_t)sizeof(MuxanduMoment) < size) size = view.len / (Py_ssize_t)sizeof(MuxanduMoment);
+    while (done < size &&
+           moment_of_item(module, PyList_GetItem(words[0], done), words[2], (MuxanduMoment *)view.buf + done))
+        done++;
     PyBuffer_Release(&view);
     return PyLong_FromSsize_t(done);
 }
@@ -205,11 +261,19 @@ static PyObject *text_of_clock(PyObject *self, PyObject *const *words, Py_ssize_
 
 static PyMethodDef functions[] = {CALLS_OF_FUNCTIONS{"pack_texts", pack_texts, METH_O, NULL},
                                   {"texts_from_timestamps", FUNCTION(texts_from_timestamps), METH_FASTCALL, NULL},
+                                  {"texts_at_spans", FUNCTION(texts_at_spans), METH_FASTCALL, NULL},
+                                  {"nanoseconds_from_moments", FUNCTION(nanoseconds_from_moments), METH_FASTCALL, NULL},
+                                  {"nanoseconds_from_lengths", FUNCTION(nanoseconds_from_lengths), METH_FASTCALL, NULL},
+                                  {"places_of_gaps", FUNCTION(places_of_gaps), METH_FASTCALL, NULL},
+                                  {"choose_moments", FUNCTION(choose_moments), METH_FASTCALL, NULL},
+                                  {"compare_moments", FUNCTION(compare_moments), METH_FASTCALL, NULL},
                                   {"text_of_clock", FUNCTION(text_of_clock), METH_FASTCALL, NULL},
                                   {"moments_from_items", FUNCTION(moments_from_items), METH_FASTCALL, NULL},
                                   {"items_from_moments", FUNCTION(items_from_moments), METH_FASTCALL, NULL},
                                   {"address", address, METH_O, NULL},
                                   {"bind", FUNCTION(bind), METH_FASTCALL, NULL},
+                                  {"bind_zones", bind_zones, METH_O, NULL},
+                                  {"moments_to_zone", FUNCTION(moments_to_zone), METH_FASTCALL, NULL},
                                   {0}};
 
 /* Types. */
@@ -233,6 +297,10 @@ static PyMethodDef functions[] = {CALLS_OF_FUNCTIONS{"pack_texts", pack_texts, M
            "$type, nanoseconds, offset_seconds, /", "The date-time of a count of nanoseconds from 1970 on.")
 #define REPLACE(made, words)                                                                                           \
     METHOD("replace", made, BY_NAME, "$self, /, *, " words, "The same with other parts, by name: replace(day=1).")
+#define TO_ZONE(made)                                                                                                  \
+    METHOD("to_zone", made, METH_O, "$self, zone, /",                                                                  \
+           "The date-time that the clocks of a zone show at the instant: of a Zone, or of the name of one. "           \
+           "RefusedResult if the year there is out of range.")
 #define DATE_WORDS "year=..., month=..., day=..."
 #define WALL_WORDS DATE_WORDS ", hour=..., minute=..., second=..., nanosecond=..."
 #define METHODS_OF_A_WALL                                                                                              \
@@ -244,6 +312,7 @@ static PyMethodDef Timestamp_methods[] = {
     METHOD("from_datetime", timestamp_from_datetime, OF_CLASS, "$type, at, /",
            "The instant of a datetime.datetime that has an offset."),
     METHOD("_to_utc_datetime", timestamp_to_utc_datetime, NO_WORDS, "$self, /", "The datetime.datetime in UTC."),
+    TO_ZONE(timestamp_to_zone),
     REDUCE(Timestamp),
     {0}};
 
@@ -254,6 +323,7 @@ static PyMethodDef OffsetDateTime_methods[] = {
     METHOD("to_utc", shown_to_utc, NO_WORDS, "$self, /", "The date-time in UTC of the same instant."),
     METHOD("from_datetime", shown_from_datetime, OF_CLASS, "$type, at, /",
            "The date-time of a datetime.datetime, which must have an offset of whole seconds."),
+    TO_ZONE(shown_to_zone),
     TO_DATETIME(clock_to_datetime, "at the offset"),
     OF_NANOSECONDS,
     REDUCE(OffsetDateTime),
@@ -269,6 +339,7 @@ static PyMethodDef UtcDateTime_methods[] = {
     METHOD("from_rfc3339", utc_from_rfc3339, OF_CLASS, "$type, text, /", "The date-time in UTC of a text of RFC 3339."),
     METHOD("from_datetime", utc_from_datetime, OF_CLASS, "$type, at, /",
            "The date-time in UTC of a datetime.datetime with an offset."),
+    TO_ZONE(shown_to_zone),
     TO_DATETIME(clock_to_datetime, "in UTC"),
     OF_NANOSECONDS,
     REDUCE(UtcDateTime),
@@ -282,6 +353,8 @@ static PyMethodDef PlainDateTime_methods[] = {
            "The same, as clocks at an offset show it."),
     METHOD("from_datetime", plain_from_datetime, OF_CLASS, "$type, at, /",
            "The wall clock of a datetime.datetime without an offset."),
+    METHOD("_at_zone", plain_at_zone, METH_FASTCALL, "$self, zone, choice, /",
+           "The date-time of a zone with this wall clock, by the number of a choice."),
     TO_DATETIME(plain_to_datetime, "without an offset"),
     REDUCE(PlainDateTime),
     REPLACE(wall_replaced, WALL_WORDS),
@@ -304,8 +377,21 @@ static PyMethodDef UtcOffset_methods[] = {METHOD("whole_seconds", offset_whole_s
                                           REDUCE(UtcOffset),
                                           {0}};
 
+static PyMethodDef Zone_methods[] = {
+    METHOD("_of_bytes", zone_of_bytes, METH_FASTCALL | METH_CLASS, "$type, data, name, source, version, made_of, /",
+           "The zone of the bytes of a file; or the status, the byte and the reason where they are none."),
+    METHOD("_of_rule", zone_of_rule, OF_CLASS, "$type, text, /",
+           "The zone of the text of a rule; or the status, the byte and the reason where it is none."),
+    METHOD("_instants_of", zone_instants, METH_O, "$self, wall, /",
+           "The date-times with a wall clock, and the second and the ends of a gap."),
+    METHOD("offset_at", zone_offset_at, METH_O, "$self, at, /",
+           "The offset of the zone at an instant: that after the last transition at or before it."),
+    METHOD("_next", zone_next, METH_O, "$self, at, /", "The numbers of the first transition after an instant."),
+    METHOD("_previous", zone_previous, METH_O, "$self, at, /", "The numbers of the last transition before one."),
+    {0}};
+
 static PyMethodDef Time_methods[] = {REDUCE(Time), {0}};
-static PyMethodDef Duration_methods[] = {REDUCE(Duration), {0}};
+static PyMethodDef Duration_methods[] = {CALLS_OF_Duration REDUCE(Duration), {0}};
 static PyMemberDef UtcOffset_members[] = {{"_seconds", T_INT, offsetof(UtcOffsetObject, value), READONLY, NULL}, {0}};
 
 /* The slots of each type: the words of its constructor, as Python reads them from the head of a
@@ -350,6 +436,10 @@ static PyType_Slot Date_slots[] = {SLOTS(Date, "year, month, day", Date_hash), S
 static PyType_Slot UtcOffset_slots[] = {
     SLOTS(UtcOffset, "whole_seconds", UtcOffset_hash), {Py_nb_index, UtcOffset_index}, {0, NULL}};
 
+static PyType_Slot Zone_slots[] = {{Py_tp_doc, "Zone(name)\n--\n\n"}, {Py_tp_new, Zone_new},
+                                   {Py_tp_dealloc, Zone_let_go},      {Py_tp_members, Zone_members},
+                                   {Py_tp_methods, Zone_methods},     {0, NULL}};
+
 #define SPEC(kind, object)                                                                                             \
     [kind_##kind] = {"muxandu." #kind, sizeof(object), 0, Py_TPFLAGS_DEFAULT | Py_TPFLAGS_BASETYPE, kind##_slots}
 
@@ -360,7 +450,8 @@ static PyType_Spec specs[KINDS] = {SPEC(OffsetDateTime, ClockObject),
                                    SPEC(Timestamp, TimestampObject),
                                    SPEC(Duration, DurationObject),
                                    SPEC(Date, DateObject),
-                                   SPEC(UtcOffset, UtcOffsetObject)};
+                                   SPEC(UtcOffset, UtcOffsetObject),
+                                   SPEC(Zone, ZoneObject)};
 
 /* The module. */
 
@@ -461,6 +552,8 @@ static int traverse(PyObject *self, visitproc visit, void *arg) {
     for (place = 0; place < sizeof held / sizeof *held; place++) Py_VISIT(*held[place]);
     for (place = 0; place < KINDS; place++) Py_VISIT(module->types[place]);
     for (place = 0; place < ALL_WORDS; place++) Py_VISIT(module->words[place]);
+    for (place = 0; place < WEEKS; place++) Py_VISIT(module->weeks[place]);
+    for (place = 0; place < ZONES; place++) Py_VISIT(module->zones[place]);
     return 0;
 }
 
@@ -471,6 +564,8 @@ static int clear(PyObject *self) {
     for (place = 0; place < sizeof held / sizeof *held; place++) Py_CLEAR(*held[place]);
     for (place = 0; place < KINDS; place++) Py_CLEAR(module->types[place]);
     for (place = 0; place < ALL_WORDS; place++) Py_CLEAR(module->words[place]);
+    for (place = 0; place < WEEKS; place++) Py_CLEAR(module->weeks[place]);
+    for (place = 0; place < ZONES; place++) Py_CLEAR(module->zones[place]);
     return 0;
 }
 

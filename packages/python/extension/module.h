@@ -25,6 +25,7 @@ enum {
     kind_Duration,
     kind_Date,
     kind_UtcOffset,
+    kind_Zone,
     KINDS
 };
 
@@ -39,6 +40,9 @@ enum {
     WHOLE_SECONDS, DAYS, MICROSECONDS, MICROSECOND, UTCOFFSET, ALL_WORDS, PARTS = SECONDS};
 // clang-format on
 
+/* How many ISO weeks and how many zones a module keeps. */
+enum { WEEKS = 1024, ZONES = 64 };
+
 typedef struct Module {
     struct Module *next;
     PyTypeObject *types[KINDS];
@@ -46,13 +50,16 @@ typedef struct Module {
     /* The classes of refusals by their statuses, and the function that gives the bytes of a text
      * of another type. */
     PyObject *refusals, *as_bytes;
-    /* The class of ISO weeks, a tuple of three. */
-    PyObject *week_date;
+    /* The class of ISO weeks, a tuple of three, and the function that finds a zone by its name. */
+    PyObject *week_date, *find_zone;
     PyObject *timedelta, *datetime, *timezone, *utc;
     PyObject *second_nanoseconds, *half_of_whole;
-    /* The last datetime.timezone that was made, and its offset. */
-    PyObject *zone;
-    int32_t zone_seconds;
+    /* Each datetime.timezone that was made last of those at one place, and their offsets. */
+    PyObject *zones[ZONES];
+    int32_t offsets_of_zones[ZONES];
+    /* ISO weeks that were made, each at the remainder of its day, and these days. */
+    PyObject *weeks[WEEKS];
+    int32_t days_of_weeks[WEEKS];
     /* int.__index__, which gives a whole number as Python's own. */
     PyObject *index_of_int;
     /* Whether this Python has the parts of these types where Timedelta and Datetime have them. */
@@ -64,7 +71,7 @@ typedef struct Module {
     {                                                                                                                  \
         &(module)->refusals, &(module)->as_bytes, &(module)->timedelta, &(module)->datetime, &(module)->timezone,      \
             &(module)->utc, &(module)->half_of_whole, &(module)->index_of_int, &(module)->second_nanoseconds,          \
-            &(module)->week_date, &(module)->zone                                                                      \
+            &(module)->week_date, &(module)->find_zone                                                                 \
     }
 
 /* The first import of the process, and those after it. */
@@ -89,6 +96,7 @@ static inline Module *owner(PyTypeObject *type, int first, int last) {
 
 #define OWNER(kind, object) owner(Py_TYPE(object), kind_##kind, kind_##kind)
 #define OWNER_OF_Timestamp(type) owner(type, kind_Timestamp, kind_Timestamp)
+#define OWNER_OF_Duration(type) owner(type, kind_Duration, kind_Duration)
 #define OWNER_OF_OffsetDateTime(type) owner(type, kind_OffsetDateTime, kind_Time)
 #define OWNER_OF_PlainDateTime(type) OWNER_OF_OffsetDateTime(type)
 #define OWNER_OF_FUNCTION(self) ((Module *)PyModule_GetState(self))
@@ -130,6 +138,25 @@ typedef struct {
 typedef struct {
     PyObject_HEAD int32_t value;
 } UtcOffsetObject;
+
+/* The seconds from one transition of a zone up to the next, and the offset between them. */
+typedef struct {
+    int64_t begin, end;
+    int32_t offset;
+} Interval;
+
+/* How many places for intervals a zone has, and a call over a column: each place is for two. */
+enum { PLACES = 256, PLACES_OF_COLUMN = 4096 };
+
+/* A zone and its transitions, as the library wrote them, what the package knows of it, and the
+ * intervals of instants that were asked for, each of which ends after it begins. */
+typedef struct {
+    PyObject_HEAD MuxanduZone value;
+    MuxanduTransition *transitions;
+    size_t count;
+    PyObject *name, *source, *version, *made_of;
+    Interval kept[PLACES][2];
+} ZoneObject;
 
 #define VALUE(kind, object) (((kind##Object *)(object))->value)
 

@@ -55,10 +55,11 @@ static PyObject *clock_of_nanoseconds(PyObject *class, PyObject *const *words, P
 
 /* Datetimes. */
 
-/* The datetime.timezone of an offset. The last one is kept. */
+/* The datetime.timezone of an offset. The last one at each place is kept. */
 static PyObject *timezone_of(Module *module, int32_t offset) {
-    PyObject *length, *made = offset ? module->zone : module->utc;
-    if (!offset || (made && module->zone_seconds == offset)) {
+    uint32_t place = (uint32_t)(offset / 60) % ZONES;
+    PyObject *length, *made = offset ? module->zones[place] : module->utc;
+    if (!offset || (made && module->offsets_of_zones[place] == offset)) {
         Py_INCREF(made);
         return made;
     }
@@ -66,9 +67,9 @@ static PyObject *timezone_of(Module *module, int32_t offset) {
     made = length ? PyObject_CallFunctionObjArgs(module->timezone, length, NULL) : NULL;
     Py_XDECREF(length);
     if (made) {
-        PyObject *last = module->zone;
+        PyObject *last = module->zones[place];
         Py_INCREF(made);
-        module->zone = made, module->zone_seconds = offset;
+        module->zones[place] = made, module->offsets_of_zones[place] = offset;
         Py_XDECREF(last);
     }
     return made;
@@ -127,17 +128,34 @@ static PyObject *timestamp_to_utc_datetime(PyObject *self, PyObject *unused) {
 
 /* Weeks. */
 
-static PyObject *date_to_iso_week_date(PyObject *self, PyObject *unused) {
-    Module *module = OWNER(Date, self);
+/* The ISO week of a day. */
+static PyObject *make_week(Module *module, int32_t day) {
     MuxanduWeekDate found;
-    uint32_t status = muxandu_week_date_from_day(((DateObject *)self)->number, &found);
+    uint32_t status = muxandu_week_date_from_day(day, &found);
     const long numbers[] = {found.year, found.week, found.weekday};
     PyObject *made = status ? refuse(module, status) : PyType_GenericAlloc((PyTypeObject *)module->week_date, 3);
     Py_ssize_t place;
-    (void)unused;
     for (place = 0; made && place < 3; place++) {
         PyObject *number = PyLong_FromLong(numbers[place]);
         if (!number || PyTuple_SetItem(made, place, number) < 0) Py_CLEAR(made);
     }
+    return made;
+}
+
+/* A week is kept for the next date of its day, as the lines of a log have them. */
+static PyObject *date_to_iso_week_date(PyObject *self, PyObject *unused) {
+    Module *module = OWNER(Date, self);
+    int32_t day = ((DateObject *)self)->number;
+    uint32_t place = (uint32_t)day % WEEKS;
+    PyObject *made = module->weeks[place], *before = made;
+    (void)unused;
+    if (!made || module->days_of_weeks[place] != day) {
+        made = make_week(module, day);
+        if (!made) return NULL;
+        module->weeks[place] = made;
+        module->days_of_weeks[place] = day;
+        Py_XDECREF(before);
+    }
+    Py_INCREF(made);
     return made;
 }

@@ -52,6 +52,16 @@ static inline int take_offset(Module *module, PyObject *word, int32_t *out) {
     return take_int32_t(word, out);
 }
 
+/* The number of a Unit. Its name alone is none. */
+static inline int take_unit(Module *module, PyObject *word, uint32_t *out) {
+    (void)module;
+    if (PyUnicode_Check(word)) {
+        PyErr_Format(PyExc_TypeError, "the unit must be a Unit, as Unit.DAY, not %R", word);
+        return 0;
+    }
+    return take_uint32_t(word, out);
+}
+
 static inline PyObject *give_uint8_t(uint8_t number) {
     return PyLong_FromLong(number);
 }

@@ -56,6 +56,7 @@ from ._texts import (
     texts_from_date_times,
 )
 from ._values import Date, Duration, IsoWeekDate, OffsetDateTime, OrdinalDate, Time, Timestamp, UtcOffset, days_in_month
+from ._zones import Gap, LocalTimes, LocalType, Transition, UnknownZoneError, Zone, ZoneError, ZoneNameError
 from ._structures import MuxanduDate as DateParts
 from ._structures import MuxanduDateTime as DateTimeParts
 from ._structures import MuxanduSpan as Span
@@ -72,7 +73,10 @@ __all__ = [
     "DateParts",
     "DateTimeParts",
     "Duration",
+    "Gap",
     "IsoWeekDate",
+    "LocalTimes",
+    "LocalType",
     "MISSING",
     "OffsetDateTime",
     "OrdinalDate",
@@ -81,8 +85,13 @@ __all__ = [
     "Time",
     "Timestamp",
     "TimestampParts",
+    "Transition",
+    "UnknownZoneError",
     "UtcDateTime",
     "UtcOffset",
+    "Zone",
+    "ZoneError",
+    "ZoneNameError",
     "__version__",
     "date_times_from_each_rfc3339",
     "date_times_from_each_second",

@@ -653,9 +653,23 @@ def date_times_from_rfc3339(texts: Any, spans: Any = None, out: Any = None) -> A
     return _read_texts(engine.date_times_from_rfc3339, texts, spans, MuxanduDateTime, out)[0]
 
 
+def _texts_of(values: Any, kind: Any) -> Optional[list[str]]:
+    """The text of RFC 3339 of each value of a list, or None if an item is of another type, or has
+    none: another call then finds its error."""
+    if type(values) is not list or {*map(type, values)} != {kind}:
+        return None
+    try:
+        return [each.to_rfc3339() for each in values]
+    except Refused:
+        return None
+
+
 def rfc3339_from_timestamps(timestamps: Timestamps) -> list[str]:
     """The shortest text of RFC 3339 in UTC of each instant: of a buffer of TimestampParts, of a
     sequence of Timestamp, or of an array of datetime64."""
+    made = _texts_of(timestamps, Timestamp)
+    if made is not None:
+        return made
     if _datetime64.is_such(timestamps):
         timestamps = timestamps_from_datetime64(timestamps)
     source = _reading(_structures(timestamps, MuxanduTimestamp, Timestamp), MuxanduTimestamp)

@@ -3,11 +3,17 @@
 from __future__ import annotations
 
 import time
-from typing import Any, Callable, ClassVar, TypeVar, Union
+from typing import TYPE_CHECKING, Any, Callable, ClassVar, Literal, TypeVar, Union
 
 from . import _extension as engine
 from . import _formats, _own_texts
-from ._values import _PARTS, Date, Time, Timestamp, _complete, _Formatted, _parts
+from ._refusals import CHOICES, RefusedFold, RefusedGap
+from ._values import _PARTS, Date, OffsetDateTime, Time, Timestamp, _complete, _Formatted, _parts
+
+if TYPE_CHECKING:
+    from ._zones import Zone
+
+Choice = Literal["compatible", "earlier", "later", "reject"]
 
 _Plain = TypeVar("_Plain", bound="PlainDateTime")
 _Utc = TypeVar("_Utc", bound="UtcDateTime")
@@ -35,6 +41,24 @@ class PlainDateTime(_Formatted, engine.PlainDateTime):
     def new(cls: type[_Plain], date: Date, time: Time) -> _Plain:
         """The date and the time of day together."""
         return cls(date.year, date.month, date.day, time.hour, time.minute, time.second, time.nanosecond)
+
+    def at_zone(self, zone: Union[Zone, str], choice: Choice = "compatible") -> OffsetDateTime:
+        """The date-time of a zone, which is a Zone or the name of one, with this wall clock.
+
+        Where its clocks show that twice, "compatible" and "earlier" take the first date-time, and
+        "later" the second. Where they skip it, "earlier" goes back by the length of the gap, and
+        "compatible" and "later" go forward. "reject" is RefusedFold and RefusedGap then.
+        RefusedResult if the year is out of range.
+        """
+        number = CHOICES.get(choice)
+        if number is None:
+            raise ValueError(f"a choice must be one of {', '.join(CHOICES)}, not {choice!r}")
+        try:
+            return self._at_zone(zone, number)
+        except (RefusedFold, RefusedGap) as refused:
+            from ._zones import told_of
+
+            raise type(refused)(None, str(self), None, told_of(self, zone)) from None
 
 
 @_complete

@@ -135,7 +135,7 @@ def _call_by_blocks(
     sources: list[Any],
     reads: list[Any],
     places: list[Any],
-    *words: int,
+    *words: Any,
 ) -> tuple[int, int]:
     """The results of a call that is made for a block of rows at a time, up to the first block with
     an error."""
@@ -161,7 +161,7 @@ def _call_over(
     sources: list[Any],
     reads: list[Any],
     places: list[Any],
-    *words: int,
+    *words: Any,
 ) -> tuple[int, int]:
     """The count and the status of a call over columns."""
     if any(column.count is not None for column in columns):
@@ -170,7 +170,7 @@ def _call_over(
     return call(*given, *words, *(word for place in places for word in (place.data, place.count)))
 
 
-def convert_all(call: Callable[..., tuple[int, int]], columns: tuple[Column, ...], made: Any, out: Any, *words: int) -> Any:
+def convert_all(call: Callable[..., tuple[int, int]], columns: tuple[Column, ...], made: Any, out: Any, *words: Any) -> Any:
     """`out`, or a new array, with the results of a call for each row."""
     sources = _sources(columns)
     if out is None:
@@ -183,7 +183,7 @@ def convert_all(call: Callable[..., tuple[int, int]], columns: tuple[Column, ...
 
 
 def convert_each(
-    call: Callable[..., tuple[int, int]], columns: tuple[Column, ...], made: Any, out: Any, statuses: Any, *words: int
+    call: Callable[..., tuple[int, int]], columns: tuple[Column, ...], made: Any, out: Any, statuses: Any, *words: Any
 ) -> tuple[Any, Any]:
     """`out` and `statuses`, or new arrays, with the result and the status of each row."""
     sources, is_like_numpy = _sources(columns), _batch._is_like_numpy(columns[0].like)

@@ -72,6 +72,11 @@ def parse_value(kind: int, text: Any, pattern: str) -> MuxanduDateTime:
     return read_value(kind, of_pattern(pattern), text)
 
 
+def lacks_offset(refused: RefusedSyntax) -> bool:
+    """Whether all that a text lacks is an offset."""
+    return refused.reason == _MISSING + REASONS[_OFFSET_HOUR]
+
+
 def in_utc(read: Callable[[int, Any, str], MuxanduDateTime], text: Any, pattern: str) -> MuxanduDateTime:
     """The parts in UTC of a text that one of these calls reads.
 
@@ -79,7 +84,7 @@ def in_utc(read: Callable[[int, Any, str], MuxanduDateTime], text: Any, pattern:
     try:
         made = read(OFFSET_DATE_TIME, text, pattern)
     except RefusedSyntax as refused:
-        if refused.reason != _MISSING + REASONS[_OFFSET_HOUR]:
+        if not lacks_offset(refused):
             raise
         return read(PLAIN_DATE_TIME, text, pattern)
     shown = engine.OffsetDateTime(*(getattr(made, name) for name in _PARTS))
@@ -115,10 +120,27 @@ def _text_and_status(kind: int, items: Any, count: int, value: MuxanduDateTime) 
     return ("" if status else room[: span[0].length].decode("ascii")), status
 
 
+class Front:
+    """Reads the parts at the front of a text by a description, and keeps the rest of the text."""
+
+    rest: Any
+
+    def __call__(self, kind: int, text: Any, pattern: str) -> MuxanduDateTime:
+        made, size = _read_by(engine.parse_items_front, kind, of_pattern(pattern), text)
+        rest = as_bytes(text)[size:]
+        self.rest = rest.decode("utf-8", "replace") if isinstance(text, str) else rest
+        return made
+
+
 def read_value(kind: int, described: Items, text: Any) -> MuxanduDateTime:
     """The parts of a text. The error names the byte, and the item that it lacks or the part."""
+    return _read_by(engine.parse_items, kind, described, text)[0]
+
+
+def _read_by(read: Callable[..., Any], kind: int, described: Items, text: Any) -> tuple[MuxanduDateTime, int]:
+    """The parts of a text that a call reads, and the number of bytes that it read."""
     source, made = as_bytes(text), MuxanduDateTime()
-    place, status, reason = engine.parse_items(kind, described.items, described.size, source, len(source), made, 1)
+    place, status, reason = read(kind, described.items, described.size, source, len(source), made, 1)
     if status == _SYNTAX and not reason:
         raise RefusedSyntax(value=text, place=place, reason=_lacking_item(kind, described, source, place))
     if status == _SYNTAX:
@@ -128,7 +150,7 @@ def read_value(kind: int, described: Items, text: Any) -> MuxanduDateTime:
         raise REFUSALS[status](value=text, place=at, reason=_wrong_part(REASONS[reason]))
     if status:
         raise REFUSALS[status](value=text)
-    return made
+    return made, place
 
 
 def _wrong_part(reason: str) -> str:

@@ -242,6 +242,28 @@ class RefusedNoText(Refused):
     status = 25
 
 
+class RefusedZone(Refused):
+    """Numbers that are no time zone: a part is out of range, or a transition or the rule does not
+    follow."""
+
+    name = "ZONE"
+    status = 26
+
+
+class RefusedGap(Refused):
+    """A wall clock that no instant has, since a time zone puts its clocks forward past it."""
+
+    name = "GAP"
+    status = 27
+
+
+class RefusedFold(Refused):
+    """A wall clock that two instants have, since a time zone puts its clocks back over it."""
+
+    name = "FOLD"
+    status = 28
+
+
 # The class of each error, by its status.
 REFUSALS: dict[int, type[Refused]] = {
     1: RefusedYear,
@@ -269,6 +291,9 @@ REFUSALS: dict[int, type[Refused]] = {
     23: RefusedOffsetHour,
     24: RefusedOffsetMinute,
     25: RefusedNoText,
+    26: RefusedZone,
+    27: RefusedGap,
+    28: RefusedFold,
 }
 
 
@@ -296,6 +321,9 @@ class Part(enum.IntEnum):
     SECOND = 7
     NANOSECOND = 8
 
+
+# The number of each choice for a wall clock that a zone shows twice or skips.
+CHOICES = {"compatible": 1, "earlier": 2, "later": 3, "reject": 4}
 
 # Where users and pickles look for them.
 for _kind in (Part, Refused, Unit):
@@ -346,6 +374,24 @@ REASONS = {
     41: "The Unix time in milliseconds, -31619087596800000 to 31494784780799999.",
     42: "The Unix time in microseconds, -31619087596800000000 to 31494784780799999999.",
     43: "The Unix time in nanoseconds, -31619087596800000000000 to 31494784780799999999999.",
+    44: "A file of a time zone that ends before the end of a header, of a block or of its rule.",
+    45: "A header of a file of a time zone that does not begin with TZif.",
+    46: "A version of a file of a time zone that is none of 1 to 4, or another one in its second header.",
+    47: "A file of a time zone without a kind of local time, or without an abbreviation.",
+    48: "An offset of a kind of local time that is out of range.",
+    49: "A mark of daylight saving time that is neither 0 nor 1.",
+    50: "An abbreviation that begins past the end of their list.",
+    51: "A list of abbreviations that does not end with a zero byte.",
+    52: "A transition to a kind of local time that the file does not have.",
+    53: "A rule in a file that does not begin with a new line.",
+    54: "A text without a name where a rule has one.",
+    55: "A text without a digit where a rule has a number.",
+    56: "A number of a rule with too few digits or too many, or out of range.",
+    57: "Another byte than the one that must follow in a rule, or a byte after it.",
+    58: "A transition that is out of range, or does not follow the one before it.",
+    59: "A rule that overlaps itself in some year, or does not follow the last transition.",
+    60: "More than 512 transitions of a time zone.",
+    61: "A header of a file of a time zone that counts leap seconds, which Unix time has not.",
 }
 
 __all__ = [
@@ -356,6 +402,8 @@ __all__ = [
     "RefusedDayNumber",
     "RefusedDayOfMonth",
     "RefusedDuration",
+    "RefusedFold",
+    "RefusedGap",
     "RefusedHour",
     "RefusedMinute",
     "RefusedMonth",
@@ -376,5 +424,6 @@ __all__ = [
     "RefusedWeekOfYear",
     "RefusedWeekday",
     "RefusedYear",
+    "RefusedZone",
     "Unit",
 ]

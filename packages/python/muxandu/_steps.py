@@ -68,15 +68,26 @@ TRUTHS: dict[str, Callable[[Date], bool]] = {
 }
 
 
+def dates_of(array: Any) -> tuple[list[Optional[Date]], Any]:
+    """The local dates of the rows, each once, None for the gaps, and the place of each row in
+    these."""
+    shown = array.parts()
+    places, keys = pandas.factorize((shown["year"].astype("int64") << 16) | (shown["month"].astype("int64") << 8) | shown["day"])
+    return [Date(key >> 16, key >> 8 & 255, key & 255) if key & 255 else None for key in map(int, keys)], places
+
+
 def of_dates(array: Any, read: Callable[[Date], Any], kind: Any, gap: Any) -> Any:
     """The results of a call for the local date of each row. It is made once for each date."""
-    shown = array.parts()
-    keys = (shown["year"].astype("int64") << 16) | (shown["month"].astype("int64") << 8) | shown["day"]
-    dates, places = numpy.unique(keys, return_inverse=True)
+    return of_known_dates(dates_of(array), read, kind, gap)
+
+
+def of_known_dates(known: tuple[list[Optional[Date]], Any], read: Callable[[Date], Any], kind: Any, gap: Any) -> Any:
+    """The same of dates that are known."""
+    dates, places = known
     values = numpy.full(len(dates), gap, kind)
-    for place, key in enumerate(map(int, dates)):
-        if key & 255:
-            values[place] = read(Date(key >> 16, key >> 8 & 255, key & 255))
+    for place, date in enumerate(dates):
+        if date is not None:
+            values[place] = read(date)
     return values[places]
 
 

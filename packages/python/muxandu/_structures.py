@@ -261,3 +261,110 @@ class MuxanduDateReads(ctypes.Structure):
 
 
 laid_out(MuxanduDateReads, 20, day=0, julian_day=4, iso_year=8, ordinal=12, iso_week=14, weekday=15, sunday_based_week=16, monday_based_week=17)
+
+
+class MuxanduZoneInstants(ctypes.Structure):
+    """The instants at which the clocks of a time zone show a wall clock. There is one, or there
+    are two in a fold, where clocks are put back over it. There is none in a gap, where clocks
+    are put forward past it. Their Unix seconds may lie outside the range of timestamps by 93599."""
+
+    _fields_ = [
+        # The Unix second of the earlier instant, or of the only one. In a gap it is that of the
+        # instant that the offset after the gap makes of the wall clock.
+        ("earlier_seconds", ctypes.c_int64),
+        # The Unix second of the later instant, or of the only one. In a gap it is that of the
+        # instant that the offset before the gap makes of the wall clock.
+        ("later_seconds", ctypes.c_int64),
+        # The Unix second at which clocks are put forward in a gap, else 0.
+        ("gap_second", ctypes.c_int64),
+        # The nanosecond of both instants, 0 to 999999999: that of the wall clock.
+        ("nanoseconds", ctypes.c_uint32),
+        # The offset of the earlier instant in seconds, in a gap that after it: -93599 to 93599.
+        ("earlier_offset_seconds", ctypes.c_int32),
+        # The offset of the later instant, in a gap that before it.
+        ("later_offset_seconds", ctypes.c_int32),
+        # The number of instants: 1, 2 in a fold, 0 in a gap.
+        ("count", ctypes.c_uint32),
+    ]
+
+
+laid_out(MuxanduZoneInstants, 40, earlier_seconds=0, later_seconds=8, gap_second=16, nanoseconds=24, earlier_offset_seconds=28, later_offset_seconds=32, count=36)
+
+
+class MuxanduTransition(ctypes.Structure):
+    """A transition of a time zone: its clocks go from one kind of local time to another."""
+
+    _fields_ = [
+        # The Unix second from which on the kind after it holds.
+        ("second", ctypes.c_int64),
+        # The offset until then, in seconds: -93599 to 93599.
+        ("before_offset_seconds", ctypes.c_int32),
+        # The offset from then on.
+        ("after_offset_seconds", ctypes.c_int32),
+        # The number of the abbreviation until then.
+        ("before_designation", ctypes.c_uint16),
+        # The number of the abbreviation from then on.
+        ("after_designation", ctypes.c_uint16),
+        # 1 for daylight saving time until then, else 0.
+        ("before_is_daylight", ctypes.c_uint8),
+        # 1 for daylight saving time from then on, else 0.
+        ("after_is_daylight", ctypes.c_uint8),
+    ]
+
+
+laid_out(MuxanduTransition, 24, second=0, before_offset_seconds=8, after_offset_seconds=12, before_designation=16, after_designation=18, before_is_daylight=20, after_is_daylight=21)
+
+
+class MuxanduZone(ctypes.Structure):
+    """A time zone, but for its transitions, which the caller keeps in an array of its own. Keep
+    both as a call wrote them."""
+
+    _fields_ = [
+        # The offset before the first transition, in seconds: -93599 to 93599.
+        ("offset_seconds", ctypes.c_int32),
+        # Seconds after the midnight of the first day of the rule, -604799 to 604799.
+        ("first_time", ctypes.c_int32),
+        # The offset after the first moment of the rule.
+        ("first_offset_seconds", ctypes.c_int32),
+        # Seconds after the midnight of the second day of the rule.
+        ("second_time", ctypes.c_int32),
+        # The offset after the second moment of the rule.
+        ("second_offset_seconds", ctypes.c_int32),
+        # The number of the abbreviation before the first transition.
+        ("designation", ctypes.c_uint16),
+        # The first day of the rule, for the kinds 2 and 3.
+        ("first_day", ctypes.c_uint16),
+        # The number of the abbreviation after the first moment of the rule.
+        ("first_designation", ctypes.c_uint16),
+        # The second day of the rule, for the kinds 2 and 3.
+        ("second_day", ctypes.c_uint16),
+        # The number of the abbreviation after the second moment of the rule.
+        ("second_designation", ctypes.c_uint16),
+        # 1 for daylight saving time before the first transition, else 0.
+        ("is_daylight", ctypes.c_uint8),
+        # 1 if a rule of each year follows the transitions, else 0.
+        ("has_rule", ctypes.c_uint8),
+        # The kind of the first day: 1 for a weekday of a month, 2 for `Jn`, 3 for `n`.
+        ("first_kind", ctypes.c_uint8),
+        # Its month, for kind 1.
+        ("first_month", ctypes.c_uint8),
+        # Its week of the month, 1 to 5, for kind 1.
+        ("first_week", ctypes.c_uint8),
+        # Its weekday, 0 for Sunday, for kind 1.
+        ("first_weekday", ctypes.c_uint8),
+        # 1 for daylight saving time after the first moment, else 0.
+        ("first_is_daylight", ctypes.c_uint8),
+        # The kind of the second day.
+        ("second_kind", ctypes.c_uint8),
+        # Its month, for kind 1.
+        ("second_month", ctypes.c_uint8),
+        # Its week of the month, for kind 1.
+        ("second_week", ctypes.c_uint8),
+        # Its weekday, for kind 1.
+        ("second_weekday", ctypes.c_uint8),
+        # 1 for daylight saving time after the second moment, else 0.
+        ("second_is_daylight", ctypes.c_uint8),
+    ]
+
+
+laid_out(MuxanduZone, 44, offset_seconds=0, first_time=4, first_offset_seconds=8, second_time=12, second_offset_seconds=16, designation=20, first_day=22, first_designation=24, second_day=26, second_designation=28, is_daylight=30, has_rule=31, first_kind=32, first_month=33, first_week=34, first_weekday=35, first_is_daylight=36, second_kind=37, second_month=38, second_week=39, second_weekday=40, second_is_daylight=41)

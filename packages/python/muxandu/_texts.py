@@ -8,7 +8,7 @@ from typing import TYPE_CHECKING, Any, Callable, Literal, Optional, Sequence, Un
 
 from . import _columns, _datetime64, _formats, _missing
 from ._batch import _block, _is_like_numpy, _pack, _reading, _room, _sequence, _structures, _test
-from ._batch import _writing, timestamps_from_rfc3339
+from ._batch import _texts_of, _writing, timestamps_from_rfc3339
 from . import _extension as engine
 from ._types import DateTimes, DateTimesOr, DateTimesWithGaps, NumbersOr, NumPyOr, Out, Spans, SupportsArray, TextsWithGaps, Told
 from ._values import OffsetDateTime
@@ -138,11 +138,14 @@ def rfc3339_from_date_times(date_times: Any, errors: str = "raise") -> Any:
     and one that has no such text, is None. Else the first raises its error."""
     if _datetime64.test_errors(errors):
         return _rfc3339_or_none(_reading(_columns.date_times_in(date_times).rows, MuxanduDateTime))
+    made = _texts_of(date_times, OffsetDateTime)
+    if made is not None:
+        return made
     source = _reading(_structures(date_times, MuxanduDateTime, OffsetDateTime), MuxanduDateTime)
     block, spans = bytearray(_MOST * source.count), (MuxanduSpan * source.count)()
     done, status = engine.date_times_to_rfc3339(source.data, source.count, block, len(block), spans, source.count)
     _test(status, done)
-    return [block[span.start : span.start + span.length].decode("ascii") for span in spans]
+    return engine.texts_at_spans(block, len(block), spans, source.count, b"", 0)
 
 
 def _rfc3339_or_none(source: Any) -> list[Optional[str]]:
@@ -151,7 +154,7 @@ def _rfc3339_or_none(source: Any) -> list[Optional[str]]:
     block, spans, statuses = bytearray(_MOST * count), (MuxanduSpan * count)(), (ctypes.c_uint32 * count)()
     done, status = engine.each_date_time_to_rfc3339(source.data, count, block, len(block), spans, count, statuses, count)
     _test(status, done)
-    return [None if told else block[span.start : span.start + span.length].decode("ascii") for span, told in zip(spans, statuses)]
+    return engine.texts_at_spans(block, len(block), spans, count, statuses, count)
 
 
 def texts_from_date_times(date_times: DateTimes, pattern: str) -> list[str]:
@@ -163,4 +166,5 @@ def texts_from_date_times(date_times: DateTimes, pattern: str) -> list[str]:
     items = (_formats.OFFSET_DATE_TIME, described.items, described.size)
     done, status = engine.format_all(*items, source.data, source.count, block, len(block), spans, source.count)
     _test(status, done)
-    return [block[span.start : span.start + span.length].decode("ascii") for span in spans]
+    texts: Any = engine.texts_at_spans(block, len(block), spans, source.count, b"", 0)
+    return texts

@@ -11,6 +11,7 @@ from typing import TYPE_CHECKING, Any, Iterable, Protocol, SupportsIndex, TypeVa
 
 from ._structures import MuxanduDate, MuxanduDateTime, MuxanduDuration, MuxanduMoment, MuxanduSpan, MuxanduTimestamp
 from ._values import Date, Duration, OffsetDateTime, Timestamp
+from ._zones import Zone
 
 if TYPE_CHECKING:
     import array
@@ -43,6 +44,7 @@ _Length = Union[Duration, datetime.timedelta]
 Durations = Union[_Length, Iterable[Union[_Length, MuxanduDuration, float, None]], Buffer]
 Offsets = Union[SupportsIndex, NumbersWithGaps]
 Spans = Union[Iterable[MuxanduSpan], Buffer]
+ZoneOrName = Union[Zone, str]
 
 # What they return: a new array, or the `out` or `statuses` of a caller.
 Out = TypeVar("Out")

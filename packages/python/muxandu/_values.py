@@ -91,6 +91,13 @@ class _Described(_Value):
         is out of range or contradicts another."""
         return cls._read(_formats.parse_value, text, pattern)
 
+    @classmethod
+    def parse_front(cls: type[_Any], text: Union[str, bytes], pattern: str) -> tuple[_Any, Any]:
+        """The value at the front of a text, and the rest of the text: str, or else bytes. Errors
+        are those of parse."""
+        front = _formats.Front()
+        return cls._read(front, text, pattern), front.rest
+
 
 class _Formatted(_Described):
     """A value that patterns of strftime write and read too."""

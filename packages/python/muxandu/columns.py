@@ -24,7 +24,7 @@ from ._columns import summands, two_columns
 from ._missing import MISSING
 from ._refusals import REFUSALS
 from ._types import DateTimes, DateTimesOr, DateTimesWithGaps, Durations, DurationsOr, Moments, MomentsOr, NumbersOr, NumPyOr
-from ._types import Offsets, OtherMoments, Out, Spans, SupportsArray, Texts, TextsWithGaps, Told
+from ._types import Offsets, OtherMoments, Out, Spans, SupportsArray, Texts, TextsWithGaps, Told, ZoneOrName
 from ._values import OffsetDateTime
 from ._words import limit
 from ._structures import MuxanduDateTime
@@ -61,6 +61,7 @@ __all__ = [
     "moments_from_rfc3339",
     "moments_subtract",
     "moments_to_offset",
+    "moments_to_zone",
     "moments_truncate",
 ]
 
@@ -179,8 +180,9 @@ def moments_from_arrow(column: Any) -> numpy.ndarray[Any, Any]:
     """The moments of a column of Arrow, as an array of NumPy in which each null is a gap.
 
     The column has `__arrow_c_array__` or `__arrow_c_stream__`, as an array of pyarrow. Its items
-    are structures of seconds: int64, nanoseconds: uint32 and offset_seconds: int32, else the call
-    raises TypeError. The first row out of range raises its error.
+    are structures of seconds: int64, nanoseconds: uint32 and offset_seconds: int32, or of at: a
+    timestamp of any unit in a zone, and offset_seconds: int32. Of others the call raises TypeError.
+    The first row out of range raises its error.
     """
     rows: numpy.ndarray[Any, Any] = _arrow_reads.rows_of_arrow(column)
     first_error(each_moment_compare(rows, rows)[1])
@@ -196,9 +198,8 @@ def arrow_from_moments(moments: Moments) -> ArrowMoments:
     return ArrowMoments(rows, rows["seconds"] == NO_SECOND)
 
 
-def first_error(statuses: Any, start: int = 0) -> None:
-    """Raises the error of the first row that failed and is no gap, with its place. The statuses are
-    those of the rows from `start` on."""
+def first_error(statuses: Any) -> None:
+    """Raises the error of the first row that failed and is no gap, with its place."""
     numpy = sys.modules.get("numpy")
     if numpy is None:
         places: Any = [place for place, status in enumerate(statuses) if status not in (0, MISSING)]
@@ -206,7 +207,23 @@ def first_error(statuses: Any, start: int = 0) -> None:
         told = numpy.asarray(statuses)
         places = numpy.flatnonzero((told != 0) & (told != MISSING)) if told.any() else ()
     if len(places):
-        raise REFUSALS[int(statuses[int(places[0])])](start + int(places[0]))
+        raise REFUSALS[int(statuses[int(places[0])])](int(places[0]))
+
+
+@overload
+def moments_to_zone(moments: SupportsArray, zone: ZoneOrName, out: Optional[Out] = None) -> NumPyOr[Out]:
+    ...
+
+
+@overload
+def moments_to_zone(moments: Moments, zone: ZoneOrName, out: Optional[Out] = None) -> MomentsOr[Out]:
+    ...
+
+
+def moments_to_zone(moments: Any, zone: ZoneOrName, out: Any = None) -> Any:
+    """The same instants on the clocks of a zone, each at the offset that the zone has then: of a
+    Zone, or of the name of one."""
+    return convert_all(_engine.moments_to_zone, (moments_in(moments),), MomentParts, out, zone)
 
 
 # The calls, by make/python_calls. Do not edit.

@@ -32,6 +32,18 @@ def _byte(text: Union[str, bytes], name: str) -> int:
     return held[0]
 
 
+# The bytes that are copied at once, to count the newlines in them.
+_PART = 1 << 20
+
+
+def _newlines(data: Any) -> int:
+    """The newlines of a block. A block that is no bytes is copied in parts."""
+    if isinstance(data, (bytes, bytearray)):
+        return data.count(b"\n")
+    view = memoryview(data).cast("B")
+    return sum(bytes(view[start : start + _PART]).count(b"\n") for start in range(0, len(view), _PART))
+
+
 def field_spans(block: Any, field: int, separator: Union[str, bytes] = ",", quote: Union[str, bytes] = '"') -> Any:
     """The place of a field in each line of a block of bytes: an array of Spans. Fields count from
     0. A field that begins with `quote` ends after the next single quote, and may contain separators
@@ -42,7 +54,7 @@ def field_spans(block: Any, field: int, separator: Union[str, bytes] = ",", quot
     if field < 0:
         raise ValueError(f"`field` counts from 0, got {field}")
     read = _batch._reading(block, ctypes.c_uint8)
-    spans = (MuxanduSpan * (read.copy().count(b"\n") + 1))()
+    spans = (MuxanduSpan * (_newlines(read.data) + 1))()
     marks = _byte(separator, "separator"), _byte(quote, "quote")
     count, status = _engine.field_spans(read.data, read.count, field, *marks, spans, len(spans))
     _batch._test(status, count)

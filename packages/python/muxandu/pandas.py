@@ -15,65 +15,66 @@ months and texts. Each result comes from the calls over columns of muxandu.colum
 from __future__ import annotations
 
 import contextlib
+import ctypes
 import datetime
-import functools
 import numbers
-from typing import Any, Callable
+import operator
+from fractions import Fraction
+from typing import Any, Callable, Iterator, Optional
 
 import numpy
 import pandas
-from pandas.api.extensions import (
-    ExtensionArray,
-    ExtensionDtype,
-    register_extension_dtype,
-    register_index_accessor,
-    register_series_accessor,
-)
+from pandas.api.extensions import ExtensionDtype, register_extension_dtype, register_index_accessor, register_series_accessor
 from pandas.api.indexers import check_array_indexer
 from pandas.api.types import is_list_like
 
 from . import _extension as _engine
-from . import _formats, _steps
 from . import (
-    MISSING,
-    DateTimeParts,
     Duration,
     OffsetDateTime,
     Refused,
     RefusedSyntax,
-    RefusedTimestamp,
     Timestamp,
     Unit,
     UtcDateTime,
+    _blocks,
+    _formats,
+    _steps,
     columns,
     rfc3339_from_date_times,
     texts_from_date_times,
 )
 from ._arrow_writes import ArrowMoments
-from ._blocks import COMPARE, DIFFERENCE, ROW, by_blocks, row_of
+from ._blocks import GAP, ROW, in_place
+from ._columns import durations_in, number_of_unit, offset_number
+from ._datetime64 import test_errors
+from ._missing import is_missing
+from ._moment_order import OrderedMoments
+from ._moment_rows import (
+    FIRST_LONG,
+    MOMENTS,
+    NO_LENGTH,
+    are_gaps,
+    as_date_time,
+    is_zoned,
+    items_of,
+    nanoseconds_of,
+    refuse_naive,
+    rows_of,
+    rows_of_arrow,
+    rows_of_items,
+    wide,
+)
+from ._pandas_asks import make_pandas_ask
+from ._text_rows import Texts, rows_of_texts
+from ._types import ZoneOrName
+from ._words import limit, to_int
 from .columns import NO_SECOND
-from ._datetime64 import split, test_errors
-from ._missing import is_missing, places_of
-from ._refusals import REFUSALS
-from ._words import one_offset, to_int
+from .fields import field_spans
 
-__all__ = ["MomentArray", "MomentDtype", "date_range", "from_arrow", "from_block", "from_texts", "merge_asof"]
+__all__ = ["MomentArray", "MomentDtype", "date_range", "from_arrow", "from_block", "from_csv", "from_texts", "merge_asof"]
 
 _PARTS = ("year", "month", "day", "hour", "minute", "second", "nanosecond", "offset_seconds")
-_DAY = numpy.datetime64("1970-01-01", "D")
-_GAP = (NO_SECOND, 0, 0)
-
-# The whole seconds of the first lengths whose nanoseconds may not fit in 64 bits.
-_FIRST_LONG = 9_223_372_036
-
-# The number of a gap among those that pandas hashes.
-_NO_NUMBER = complex(float("nan"), 0.0)
-
-# The nanoseconds of NaT, and the rows of a block.
-_NO_LENGTH, _BLOCK = -(2**63), 131_072
-
-# The last second of the range, and how many seconds have nanoseconds that fit in 64 bits.
-_LAST_SECOND, _SECONDS_OF_NANOSECONDS = Timestamp.MAX.seconds, 2**63 // 1_000_000_000 - 1
 
 # The rows that become objects by one call.
 _ITEMS = 8_192
@@ -81,8 +82,7 @@ _ITEMS = 8_192
 # The name of the column of numbers by which two tables are merged.
 _KEY = "numbers of instants"
 
-# What a row compares with.
-_MOMENTS = (OffsetDateTime, UtcDateTime, Timestamp, datetime.datetime, numpy.datetime64, str)
+_DURATION = numpy.dtype(columns.DurationParts)
 
 # The words of a DateOffset of pandas that are months, and that are lengths.
 _MONTHS = {"years": 12, "months": 1}
@@ -107,197 +107,32 @@ class MomentDtype(ExtensionDtype):
     def __from_arrow__(self, array: Any) -> MomentArray:
         """The column of an Arrow array of structures."""
         chunks = getattr(array, "chunks", [array])
-        rows = [_rows_of_arrow(chunk) for chunk in chunks]
-        return MomentArray(numpy.concatenate(rows) if rows else numpy.zeros(0, ROW))
+        return MomentArray(numpy.concatenate([numpy.zeros(0, ROW), *map(rows_of_arrow, chunks)]))
 
 
-def _read_keys_of_indexes() -> None:
-    """Makes an index of moments read a key that is a text or a datetime, for `in` and for `.loc`.
-    pandas finds a key by its hash, and lets no dtype read it first. Other indexes stay as they
-    are."""
-    contains, get_loc = pandas.Index.__contains__, pandas.Index.get_loc
-
-    def as_key(index: Any, key: Any) -> Any:
-        """The moment of a key. KeyError of a text that is none: pandas asks for names so."""
-        if not isinstance(key, (str, datetime.datetime)) or not isinstance(index.dtype, MomentDtype) or is_missing(key):
-            return key
-        try:
-            return _as_date_time(key)
-        except Refused as refused:
-            raise KeyError(key) from refused
-
-    @functools.wraps(contains)
-    def contains_moment(self: Any, key: Any) -> Any:
-        try:
-            return contains(self, as_key(self, key))
-        except KeyError:
-            return False
-
-    @functools.wraps(get_loc)
-    def get_loc_of_moment(self: Any, key: Any, *words: Any, **named: Any) -> Any:
-        return get_loc(self, as_key(self, key), *words, **named)
-
-    pandas.Index.__contains__, pandas.Index.get_loc = contains_moment, get_loc_of_moment
+make_pandas_ask()
 
 
-_read_keys_of_indexes()
-
-
-def _rows_of_arrow(chunk: Any) -> Any:
-    """The rows of a chunk of structures of Arrow."""
-    rows = numpy.zeros(len(chunk), ROW)
-    for name in ROW.names or ():
-        rows[name] = chunk.field(name).to_numpy(zero_copy_only=False)
-    rows[chunk.is_null().to_numpy(zero_copy_only=False)] = _GAP
-    return rows
-
-
-def _as_date_time(value: Any) -> OffsetDateTime:
-    """A value as a date-time at an offset. A text is one of RFC 3339, or that of `str`."""
-    if isinstance(value, OffsetDateTime):
-        return value
-    if isinstance(value, (Timestamp, UtcDateTime)):
-        return value.to_offset(0)
-    if isinstance(value, str):
-        return _of_text(value)
-    if isinstance(value, numpy.datetime64) or isinstance(value, datetime.datetime) and value.utcoffset() is None:
-        raise ValueError(f"{value!r} has no offset: give it one, as pandas.Timestamp(..).tz_localize does")
-    if isinstance(value, datetime.datetime):
-        return OffsetDateTime.from_datetime(value)
-    raise TypeError(f"an item must be an OffsetDateTime, a datetime with an offset or a text, not {type(value).__name__}")
-
-
-def _of_text(text: str) -> OffsetDateTime:
-    """The date-time of a text, as a column reads it. The error of a text of another form has the
-    byte at which it is no RFC 3339."""
-    try:
-        return OffsetDateTime.from_rfc3339(text)
-    except RefusedSyntax:
-        with contextlib.suppress(Refused):
-            return OffsetDateTime.from_text(text)
-        raise
-
-
-def _refuse_naive(values: Any) -> None:
-    """Raises a ValueError for a column of datetime64 without an offset, which shows the clocks of a
-    zone that only its owner knows."""
-    dtype = getattr(values, "dtype", None)
-    if getattr(dtype, "kind", "") == "M" and getattr(dtype, "tz", None) is None:
-        raise ValueError('a column of datetime64 has no offset: give it a zone, as .dt.tz_localize("UTC") does')
-
-
-def _is_zoned(values: Any) -> bool:
-    """Whether it is an array of pandas with a time zone."""
-    return isinstance(values, ExtensionArray) and isinstance(values.dtype, pandas.DatetimeTZDtype)
-
-
-def _rows_of_datetime64(values: Any) -> Any:
-    """The rows of an array of datetime64, in UTC. RefusedTimestamp of the first that is out of
-    range."""
-    rows, gaps = numpy.zeros(len(values), ROW), numpy.isnat(values)
-    seconds, rows["nanoseconds"] = split(values)
-    is_far = ~gaps & ((seconds < Timestamp.MIN.seconds) | (seconds > _LAST_SECOND))
-    if is_far.any():
-        raise RefusedTimestamp(int(is_far.argmax()))
-    rows["seconds"] = seconds
-    rows[gaps] = _GAP
-    return rows
-
-
-def _rows_of_zoned(values: Any) -> Any:
-    """The rows of a column of pandas with a time zone, each at the offset that its clocks have
-    then."""
-    index = pandas.DatetimeIndex(values)
-    instants, walls = (numpy.asarray(one.tz_localize(None)) for one in (index.tz_convert("UTC"), index))
-    rows = _rows_of_datetime64(instants)
-    known = ~numpy.asarray(index.isna())
-    rows["offset_seconds"][known] = (walls - instants)[known].astype("m8[s]").astype("int64")
-    return rows
-
-
-def _check(rows: Any, statuses: Any) -> Any:
-    """The rows of a call of `each`, in which a gap stays a gap. The first other error is raised."""
-    columns.first_error(statuses)
-    if statuses.any():
-        rows[statuses == MISSING] = _GAP
-    return rows
-
-
-def _read_own_texts(items: list[Any], rows: Any, statuses: Any) -> None:
-    """Reads the texts that are no RFC 3339, but as `str` writes a date-time, and as to_csv writes a
-    column."""
-    for place in numpy.flatnonzero(statuses == RefusedSyntax.status):
-        rows[place] = row_of(OffsetDateTime.from_text(items[place]))
-        statuses[place] = 0
-
-
-def _rows_of_items(items: list[Any]) -> Any:
-    """The rows of texts, or of date-times."""
-    made = numpy.zeros(len(items), ROW)
-    if _engine.moments_from_items(items, made, pandas.NA) == len(items):
-        return made
-    gaps, rows = numpy.zeros(len(items), bool), numpy.zeros(len(items), ROW)
-    gaps[places_of(items)] = True
-    if all(gap or isinstance(item, str) for gap, item in zip(gaps, items)):
-        statuses = numpy.zeros(len(items), "uint32")
-        columns.moments_from_each_rfc3339(items, out=rows, statuses=statuses)
-        _read_own_texts(items, rows, statuses)
-        return _check(rows, statuses)
-    known = [_as_date_time(item) for gap, item in zip(gaps, items) if not gap]
-    if known:
-        rows[~gaps] = columns.moments_from_date_times(known, numpy.zeros(len(known), ROW))
-    rows[gaps] = _GAP
-    return rows
-
-
-def _rows_of(values: Any, copy: bool = False) -> Any:
-    """The rows of a column: of moments, of an array of datetime64, which is in UTC, of a column of
-    pandas with a time zone, of texts or of date-times."""
-    if isinstance(values, (pandas.Series, pandas.Index)):
-        values = values.array
-    if isinstance(values, MomentArray):
-        return values._rows.copy() if copy else values._rows
-    if isinstance(values, numpy.ndarray) and values.dtype == ROW:
-        return values.copy() if copy else values
-    if isinstance(getattr(values, "dtype", None), pandas.DatetimeTZDtype):
-        return _rows_of_zoned(values)
-    if isinstance(values, numpy.ndarray) and values.dtype.kind == "M":
-        return _rows_of_datetime64(values)
-    _refuse_naive(values)
-    return _rows_of_items(list(values))
-
-
-def _end_of(rows: Any, name: str) -> Any:
-    """The row of the first instant, for `min`, or of the last, for `max`. Of no instants it is a
-    gap."""
-    seconds, end = rows["seconds"], numpy.min if name == "min" else numpy.max
-    blocks = [slice(start, start + _BLOCK) for start in range(0, len(rows), _BLOCK)]
-    # The second before that of a gap is the greatest of 64 bits, and no instant has it.
-    ends: Any = [int(end(seconds[block] - 1)) + 1 if name == "min" else int(end(seconds[block])) for block in blocks]
-    found = min(ends, default=NO_SECOND) if name == "min" else max(ends, default=NO_SECOND)
-    if found in (NO_SECOND, -NO_SECOND):
-        return numpy.array(_GAP, ROW)
-    places = [block.start + numpy.flatnonzero(seconds[block] == found) for block, one in zip(blocks, ends) if one == found]
-    at = numpy.concatenate(places)
-    nanoseconds = rows["nanoseconds"][at]
-    return rows[int(at[numpy.argmin(nanoseconds) if name == "min" else numpy.argmax(nanoseconds)])]
-
-
-class MomentArray(ExtensionArray):
+class MomentArray(OrderedMoments):
     """A column of moments: an array of rows of 16 bytes, which it does not copy."""
 
     def __init__(self, rows: Any, copy: bool = False) -> None:
         if not isinstance(rows, numpy.ndarray) or rows.dtype != ROW or rows.ndim != 1:
             raise TypeError("rows must be an array of one dimension of MomentParts")
-        self._rows = rows.copy() if copy else rows
+        self._rows = wide(rows).copy().view(ROW) if copy else rows
 
     @classmethod
     def _from_sequence(cls, scalars: Any, *, dtype: Any = None, copy: bool = False) -> MomentArray:
-        return cls(_rows_of(scalars, copy))
+        return cls(rows_of(scalars, copy))
 
     @classmethod
     def _from_sequence_of_strings(cls, strings: Any, *, dtype: Any = None, copy: bool = False) -> MomentArray:
-        return cls(_rows_of_items([None if is_missing(text) or text == "" else text for text in strings]))
+        items = numpy.asarray(strings, object).tolist()
+        try:
+            return cls(rows_of_items(items))
+        except RefusedSyntax:
+            # A text that is empty is a gap, and few columns have one.
+            return cls(rows_of_items([None if isinstance(item, str) and not item else item for item in items]))
 
     @classmethod
     def _from_scalars(cls, scalars: Any, *, dtype: Any) -> MomentArray:
@@ -312,7 +147,7 @@ class MomentArray(ExtensionArray):
     @classmethod
     def _from_factorized(cls, values: Any, original: MomentArray) -> MomentArray:
         places, values = original._firsts(), numpy.asarray(values)
-        found, is_gap = original._values_for_factorize()[0][places], values == _NO_LENGTH
+        found, is_gap = original._values_for_factorize()[0][places], values == NO_LENGTH
         order = numpy.argsort(found)
         at = numpy.searchsorted(found, values, sorter=order).clip(max=max(len(found) - 1, 0))
         rows = places[order][at] if len(found) else at
@@ -320,7 +155,7 @@ class MomentArray(ExtensionArray):
 
     @classmethod
     def _concat_same_type(cls, to_concat: Any) -> MomentArray:
-        return cls(numpy.concatenate([array._rows for array in to_concat]))
+        return cls(numpy.concatenate([wide(array._rows) for array in to_concat]).view(ROW))
 
     @property
     def dtype(self) -> MomentDtype:
@@ -337,11 +172,11 @@ class MomentArray(ExtensionArray):
 
     def isna(self) -> Any:
         """Which rows are gaps."""
-        return self._rows["seconds"] == NO_SECOND
+        return are_gaps(self._rows)
 
     def copy(self) -> MomentArray:
         """The column with rows of its own."""
-        return type(self)(self._rows.copy())
+        return type(self)(wide(self._rows).copy().view(ROW))
 
     def view(self, dtype: Any = None) -> Any:
         """The same rows as another column."""
@@ -362,25 +197,30 @@ class MomentArray(ExtensionArray):
         item = check_array_indexer(self, item)
         if isinstance(item, numbers.Integral):
             return self._item(self._rows[item])
-        return MomentArray(self._rows[item])
+        if getattr(item, "dtype", None) == bool:
+            return MomentArray(wide(self._rows).compress(item).view(ROW))
+        return MomentArray(wide(self._rows)[item].view(ROW))
 
     def __setitem__(self, key: Any, value: Any) -> None:
         key = check_array_indexer(self, key)
         if self._marks_gaps(key, value):
             self._skips_gaps = True
             return
-        rows = _rows_of(value if is_list_like(value) else [value])
-        self._rows[key] = rows if is_list_like(value) else rows[0]
+        is_many = is_list_like(value)
+        if is_many and isinstance(key, numbers.Integral):
+            raise ValueError("a row takes one item, not a sequence of them")
+        rows = wide(rows_of(value if is_many else [value]))
+        wide(self._rows)[key] = rows if is_many else rows[0]
 
     def __iter__(self) -> Any:
         for start in range(0, len(self), _ITEMS):
-            yield from _items_of(self._rows[start : start + _ITEMS])
+            yield from items_of(self._rows[start : start + _ITEMS])
 
     def __array__(self, dtype: Any = None, copy: Any = None) -> Any:
         """The items as an array of objects, or the instants in UTC as datetime64."""
         if dtype is not None and numpy.dtype(dtype).kind == "M":
             return self._datetime64().astype(dtype, copy=False)
-        items = numpy.fromiter(_items_of(self._rows), object, len(self))
+        items = numpy.fromiter(items_of(self._rows), object, len(self))
         return items if dtype is None else items.astype(dtype, copy=False)
 
     def take(self, indices: Any, *, allow_fill: bool = False, fill_value: Any = None) -> MomentArray:
@@ -390,197 +230,46 @@ class MomentArray(ExtensionArray):
         if not len(self) and len(places) and (not allow_fill or (places >= 0).any()):
             raise IndexError("cannot do a non-empty take from an empty axes")
         if not allow_fill:
-            return type(self)(self._rows[places])
-        if (places < -1).any():
+            return type(self)(wide(self._rows).take(places).view(ROW))
+        least, most = places.min(initial=0), places.max(initial=-1)
+        if least < -1:
             raise ValueError("a place is below -1")
-        if len(places) and places.max() >= len(self):
+        if most >= len(self):
             raise IndexError("a place is out of bounds")
-        rows, known = numpy.zeros(len(places), ROW), places >= 0
-        rows[known] = self._rows[places[known]]
-        rows[~known] = _GAP if is_missing(fill_value) else _rows_of([fill_value])[0]
-        return type(self)(rows)
+        filling = wide(rows_of([None if is_missing(fill_value) else fill_value]))
+        made = wide(self._rows).take(places, mode="wrap") if most >= 0 else filling.take(numpy.zeros_like(places))
+        if least < 0 <= most:
+            made[places < 0] = filling[0]
+        return type(self)(made.view(ROW))
 
-    # The order of instants, by which pandas sorts, finds and groups.
-
-    def _ranks(self) -> Any:
-        """A number for each instant, in their order, the same for equal instants, and -1 for a
-        gap."""
-        gaps, nanoseconds = self.isna(), self._rows["nanoseconds"]
-        least = self._rows["seconds"][~gaps].min(initial=_LAST_SECOND)
-        seconds = numpy.where(gaps, 0, self._rows["seconds"] - least)
-        if seconds.max(initial=0) < _SECONDS_OF_NANOSECONDS:
-            return numpy.where(gaps, -1, seconds * 1_000_000_000 + nanoseconds)
-        order, ranks = numpy.lexsort((nanoseconds, seconds)), numpy.zeros(len(self), "int64")
-        pairs = numpy.stack([seconds[order], nanoseconds[order]])
-        ranks[order[1:]] = numpy.cumsum((pairs[:, 1:] != pairs[:, :-1]).any(axis=0))
-        return numpy.where(gaps, -1, ranks)
-
-    def _values_for_argsort(self) -> Any:
-        return self._ranks()
-
-    def _values_for_factorize(self) -> tuple[Any, Any]:
-        """The nanoseconds of each instant from 1970 on, and the number of a gap, the same in each
-        column: of 64 bits where those of all rows fit, else whole numbers of Python. pandas merges
-        two columns by them, and sorts them."""
-        seconds, nanoseconds, gaps = self._rows["seconds"], self._rows["nanoseconds"], self.isna()
-        if (numpy.abs(numpy.where(gaps, 0, seconds)) < _FIRST_LONG).all():
-            return numpy.where(gaps, _NO_LENGTH, seconds * 1_000_000_000 + nanoseconds), _NO_LENGTH
-        numbers = seconds.astype(object) * 1_000_000_000 + nanoseconds.astype(object)
-        numbers[gaps] = _NO_LENGTH
-        return numbers, _NO_LENGTH
-
-    def _as_hashed(self) -> Any:
-        """A number of 128 bits for each instant, the same in each column. Dask sends a row to a
-        partition by its hash."""
-        numbers, gaps = self._rows["seconds"].astype("complex128"), self.isna()
-        numbers.imag = self._rows["nanoseconds"]
-        numbers[gaps] = _NO_NUMBER
-        return numbers
-
-    def _hash_pandas_object(self, *, encoding: str, hash_key: str, categorize: bool) -> Any:
-        return pandas.util.hash_array(self._as_hashed(), encoding, hash_key, categorize)
-
-    def _rank(
-        self, *, axis: int = 0, method: str = "average", na_option: str = "keep", ascending: bool = True, pct: bool = False
-    ) -> Any:
-        """The place of each instant in their order, from 1, as pandas has it of numbers."""
-        places, known = numpy.full(len(self), numpy.nan), ~self.isna()
-        places[known] = numpy.unique(self._ranks()[known], return_inverse=True)[1]
-        ranked = pandas.Series(places).rank(axis=axis, method=method, na_option=na_option, ascending=ascending, pct=pct)
-        return ranked.to_numpy()
-
-    def duplicated(self, keep: Any = "first") -> Any:
-        """Which rows repeat the instant, or the gap, of a row before; with keep="last" of a row
-        after, with keep=False of any other."""
-        return pandas.Series(self._ranks()).duplicated(keep).to_numpy()
-
-    # Whether pandas before 2.1 asks for ends that pass over gaps: it marks them so in a copy, and
-    # then calls NumPy.
-    _skips_gaps = False
-
-    def _marks_gaps(self, key: Any, value: Any) -> bool:
-        """Whether the value is infinite, and the rows are the gaps."""
-        is_end = isinstance(value, float) and value in (float("inf"), -float("inf"))
-        return is_end and getattr(key, "dtype", None) == bool and bool((key == self.isna()).all())
-
-    def __array_ufunc__(self, ufunc: Any, method: str, *inputs: Any, **words: Any) -> Any:
-        names = {numpy.maximum: "cummax", numpy.minimum: "cummin"}
-        if method == "accumulate" and ufunc in names:
-            return self._accumulate(names[ufunc], skipna=self._skips_gaps)
-        return super().__array_ufunc__(ufunc, method, *inputs, **words)
-
-    def _accumulate(self, name: str, *, skipna: bool = True, **words: Any) -> MomentArray:
-        """The first instant up to each row, for `cummin`, or the last, for `cummax`."""
-        if name not in ("cummin", "cummax"):
-            raise NotImplementedError(f"a column of moments has no {name}")
-        gaps, ranks = self.isna(), self._ranks()
-        ends, behind = (numpy.maximum, -1) if name == "cummax" else (numpy.minimum, ranks.max(initial=-1) + 1)
-        ranks[gaps] = behind
-        before = numpy.append(behind, ends.accumulate(ranks))[:-1]
-        is_new = ends(ranks, before) != before
-        rows = numpy.maximum.accumulate(numpy.where(is_new, numpy.arange(len(self)), -1))
-        is_gap = gaps if skipna else numpy.logical_or.accumulate(gaps)
-        return self.take(numpy.where(is_gap, -1, rows), allow_fill=True)
-
-    # Gaps that are filled from other rows.
-
-    def fillna(self, value: Any = None, method: Any = None, limit: Any = None, copy: bool = True) -> MomentArray:
-        """The column with its gaps filled by a value, or by rows before or after them. pandas
-        before 2.1 calls this for both."""
-        if method is not None and value is None:
-            return self._pad_or_backfill(method=method, limit=limit, copy=copy)
-        return super().fillna(value, limit=limit, **({} if method is None else {"method": method}))
-
-    def _pad_or_backfill(self, *, method: Any, limit: Any = None, limit_area: Any = None, copy: bool = True) -> MomentArray:
-        """The column in which a gap has the row before it, for `pad`, or the row after it, at most
-        `limit` gaps in sequence. With a `limit_area` these are gaps between rows, for `inside`, or
-        all others, for `outside`."""
-        known = ~self.isna()
-        if known.all():
-            return self.copy() if copy else self
-        if method in ("backfill", "bfill"):
-            back = self[::-1]._pad_or_backfill(method="pad", limit=limit, limit_area=limit_area)
-            return back[::-1]
-        places = numpy.arange(len(self))
-        before = numpy.maximum.accumulate(numpy.where(known, places, -1))
-        if limit is not None:
-            before[places - before > limit] = -1
-        if limit_area is not None:
-            is_between = numpy.logical_or.accumulate(known) & numpy.logical_or.accumulate(known[::-1])[::-1]
-            before[~known & (is_between if limit_area == "outside" else ~is_between)] = -1
-        return self.take(before, allow_fill=True)
-
-    def factorize(self, na_sentinel: Any = -1, use_na_sentinel: Any = True) -> tuple[Any, MomentArray]:
-        """The number of each instant in the order of their first rows, the sentinel for a gap, and
-        these rows."""
-        is_marked = use_na_sentinel is not False and na_sentinel is not None
-        known = ~self.isna() if is_marked else numpy.ones(len(self), bool)
-        codes = numpy.full(len(self), na_sentinel if isinstance(na_sentinel, int) else -1)
-        keys = self._values_for_factorize()[0]
-        codes[known], found = pandas.factorize(keys[known])
-        firsts, places = numpy.zeros(len(found), "intp"), numpy.flatnonzero(known)[::-1]
-        firsts[codes[places]] = places
-        return codes, MomentArray(self._rows[firsts])
-
-    def isin(self, values: Any) -> Any:
-        """Which rows have the instant of one of these values: date-times or their texts. No row has
-        the instant of what is no moment."""
-        _refuse_naive(values)
-        if not isinstance(getattr(values, "dtype", None), (MomentDtype, pandas.DatetimeTZDtype)):
-            values = [item for item in values if is_missing(item) or isinstance(item, _MOMENTS)]
-        keys, others = (column._values_for_factorize()[0] for column in (self, MomentArray(_rows_of(values))))
-        return pandas.Series(keys).isin(others).to_numpy()
-
-    def searchsorted(self, value: Any, side: Any = "left", sorter: Any = None) -> Any:
-        """The places at which moments, or their texts, keep the order of a sorted column."""
-        is_many = is_list_like(value)
-        keys, others = (
-            column._values_for_factorize()[0] for column in (self, MomentArray(_rows_of(value if is_many else [value])))
-        )
-        places: Any = numpy.searchsorted(keys, others, side, sorter)
-        return places if is_many else places[0]
-
-    def _firsts(self) -> Any:
-        """The places of the first row of each instant."""
-        return numpy.flatnonzero(~pandas.Series(self._ranks()).duplicated().to_numpy())
-
-    def unique(self) -> MomentArray:
-        """The first row of each instant."""
-        return MomentArray(self._rows[self._firsts()])
-
-    def value_counts(self, dropna: bool = True) -> Any:
-        """How often each instant comes, the most frequent first."""
-        codes, found = pandas.factorize(self)
-        counts = numpy.bincount(codes[codes >= 0], minlength=len(found))
-        gaps = int(self.isna().sum())
-        if not dropna and gaps:
-            found = found._concat_same_type([found, self[self.isna()][:1]])
-            counts = numpy.append(counts, gaps)
-        values = pandas.array(counts, dtype="Int64")
-        return pandas.Series(values, pandas.Index(found)).sort_values(ascending=False, kind="stable")
+    def _where(self, mask: Any, value: Any) -> MomentArray:
+        """The rows where a mask says so, and elsewhere a value, or those of another column."""
+        if is_list_like(value) and not isinstance(value, MomentArray):
+            made: MomentArray = super()._where(mask, value)
+            return made
+        others = value._rows if isinstance(value, MomentArray) else rows_of([value])
+        return type(self)(_blocks.choice(mask, self._rows, others))
 
     # Comparisons.
 
     def _comparison(self, other: Any, compare: Callable[..., Any]) -> Any:
         """How each row compares with another, or with one for all, with gaps masked."""
-        found, gaps = numpy.zeros(len(self), bool), numpy.zeros(len(self), bool)
-        for block, orders, statuses in by_blocks(COMPARE, self._rows, other):
-            if statuses is not None:
-                columns.first_error(statuses, block.start)
-                numpy.equal(statuses, MISSING, out=gaps[block])
-            compare(orders, 0, out=found[block])
+        found, gaps = _blocks.comparison(self._rows, other, _blocks.COMPARISONS.index(compare))
         return pandas.arrays.BooleanArray(found, gaps)
 
     def _compare(self, other: Any, compare: Callable[..., Any]) -> Any:
+        if isinstance(other, pandas.DatetimeIndex):
+            # Its own answer would be that no two are equal.
+            other = other.array
         if isinstance(other, (pandas.Series, pandas.Index, pandas.DataFrame)):
             return NotImplemented
         if not is_list_like(other):
             return self._compare_one(other, compare)
         if len(other) != len(self):
             raise ValueError("Lengths must match")
-        _refuse_naive(other)
+        refuse_naive(other)
         try:
-            return self._comparison(_rows_of(other), compare)
+            return self._comparison(rows_of(other), compare)
         except TypeError:
             return self._compare_each(list(other), compare)
 
@@ -588,61 +277,49 @@ class MomentArray(ExtensionArray):
         """How each row compares with a value. A text that is no moment is an error."""
         if is_missing(other):
             return pandas.arrays.BooleanArray(numpy.zeros(len(self), bool), numpy.ones(len(self), bool))
-        if not isinstance(other, _MOMENTS):
+        if not isinstance(other, MOMENTS):
             return self._unlike(compare)
-        return self._comparison(_as_date_time(other), compare)
+        return self._comparison(as_date_time(other), compare)
 
     def _compare_each(self, others: list[Any], compare: Callable[..., Any]) -> Any:
         """How each row compares with its item of a list in which some are no moments."""
-        alike = numpy.array([is_missing(item) or isinstance(item, _MOMENTS) for item in others], bool)
+        alike = numpy.array([is_missing(item) or isinstance(item, MOMENTS) for item in others], bool)
         found = self._unlike(compare)
-        rows = _rows_of([item for item, is_like in zip(others, alike) if is_like])
+        rows = rows_of([item for item, is_like in zip(others, alike) if is_like])
         found[alike] = self[alike]._comparison(rows, compare)
         return found
 
     def _unlike(self, compare: Callable[..., Any]) -> Any:
         """The comparison with what is no moment: equal to none, and without an order."""
-        if compare not in (numpy.equal, numpy.not_equal):
+        if compare not in (operator.eq, operator.ne):
             raise TypeError("a moment has an order with moments alone")
-        return pandas.arrays.BooleanArray(numpy.full(len(self), compare is numpy.not_equal), self.isna())
+        return pandas.arrays.BooleanArray(numpy.full(len(self), compare is operator.ne), self.isna())
 
     def __eq__(self, other: Any) -> Any:
-        return self._compare(other, numpy.equal)
+        return self._compare(other, operator.eq)
 
     def __ne__(self, other: Any) -> Any:
-        return self._compare(other, numpy.not_equal)
+        return self._compare(other, operator.ne)
 
     def __lt__(self, other: Any) -> Any:
-        return self._compare(other, numpy.less)
+        return self._compare(other, operator.lt)
 
     def __le__(self, other: Any) -> Any:
-        return self._compare(other, numpy.less_equal)
+        return self._compare(other, operator.le)
 
     def __gt__(self, other: Any) -> Any:
-        return self._compare(other, numpy.greater)
+        return self._compare(other, operator.gt)
 
     def __ge__(self, other: Any) -> Any:
-        return self._compare(other, numpy.greater_equal)
+        return self._compare(other, operator.ge)
 
     # Sums.
-
-    def _change(self, call: Callable[..., Any], each: Callable[..., Any], *words: Any) -> MomentArray:
-        """The column that a call makes of this one. Where a row fails, the call of `each` follows,
-        in which a gap stays a gap."""
-        rows = numpy.empty(len(self), ROW)
-        try:
-            call(self._rows, *words, rows)
-        except Refused:
-            statuses = numpy.zeros(len(self), "uint32")
-            each(self._rows, *words, rows, statuses)
-            _check(rows, statuses)
-        return MomentArray(rows)
 
     def _is_length(self, other: Any) -> bool:
         kind = getattr(getattr(other, "dtype", None), "kind", "")
         return isinstance(other, (Duration, datetime.timedelta, numpy.timedelta64)) or kind == "m"
 
-    def _sum(self, other: Any, *calls: Callable[..., Any]) -> Any:
+    def _sum(self, other: Any, call: Any) -> Any:
         if isinstance(other, (pandas.Series, pandas.Index, pandas.DataFrame)):
             return NotImplemented
         if isinstance(other, numpy.timedelta64):
@@ -653,7 +330,10 @@ class MomentArray(ExtensionArray):
                 return NotImplemented
         elif not self._is_length(other):
             return NotImplemented
-        return self._change(*calls, numpy.asarray(other) if self._is_length(other) and is_list_like(other) else other)
+        is_column = self._is_length(other) and is_list_like(other)
+        column = durations_in(numpy.asarray(other) if is_column else other, len(self))
+        durations, is_one = numpy.frombuffer(memoryview(column.rows).cast("B"), _DURATION), column.count is not None
+        return MomentArray(_blocks.sums(call, self._rows, durations[:1] if is_one else durations, is_one))
 
     def _move(self, offset: Any, sign: int) -> Any:
         """The column that a DateOffset of pandas makes, of months and lengths: the months come
@@ -672,46 +352,33 @@ class MomentArray(ExtensionArray):
     def __add__(self, other: Any) -> Any:
         if isinstance(other, pandas.offsets.BaseOffset):
             return self._move(other, 1)
-        return self._sum(other, columns.moments_add, columns.each_moment_add)
+        return self._sum(other, _engine.moments_add_past_gaps)
 
     __radd__ = __add__
 
     def __sub__(self, other: Any) -> Any:
-        if isinstance(other, (MomentArray, OffsetDateTime)) or _is_zoned(other):
+        if isinstance(other, (MomentArray, OffsetDateTime)) or is_zoned(other):
             return self.since(other)
         if isinstance(other, pandas.offsets.BaseOffset):
             return self._move(other, -1)
-        if isinstance(other, datetime.datetime) and not is_missing(other):
-            return self.since(_as_date_time(other))
-        return self._sum(other, columns.moments_subtract, columns.each_moment_subtract)
+        if isinstance(other, (Timestamp, UtcDateTime, datetime.datetime)) and not is_missing(other):
+            return self.since(as_date_time(other))
+        return self._sum(other, _engine.moments_subtract_past_gaps)
 
     def __rsub__(self, other: Any) -> Any:
-        if _is_zoned(other):
-            return MomentArray(_rows_of(other)).since(self)
-        if not isinstance(other, (OffsetDateTime, datetime.datetime)) or is_missing(other):
+        if is_zoned(other):
+            return MomentArray(rows_of(other)).since(self)
+        if not isinstance(other, (OffsetDateTime, Timestamp, UtcDateTime, datetime.datetime)) or is_missing(other):
             return NotImplemented
-        return -self.since(_as_date_time(other))
+        return -self.since(as_date_time(other))
 
     def since(self, other: Any) -> Any:
         """The timedelta64 to each moment from the one of another column, or from one for all.
         OverflowError beyond 292 years."""
-        earlier = other if isinstance(other, OffsetDateTime) else _rows_of(other)
+        earlier = other if isinstance(other, OffsetDateTime) else rows_of(other)
         if not isinstance(other, OffsetDateTime) and len(earlier) != len(self):
             raise ValueError(f"columns must have one length, not {len(self)} and {len(earlier)}")
-        counts = numpy.empty(len(self), "int64")
-        for block, lengths, statuses in by_blocks(DIFFERENCE, self._rows, earlier):
-            if statuses is not None:
-                columns.first_error(statuses, block.start)
-            part = counts[block]
-            part[:] = lengths["seconds"]
-            if part.min() <= -_FIRST_LONG or part.max() >= _FIRST_LONG:
-                place = block.start + int((numpy.abs(part) >= _FIRST_LONG).argmax())
-                raise OverflowError(f"item {place} is more than 292 years: use columns.moments_difference")
-            part *= 1_000_000_000
-            part += lengths["nanoseconds"]
-            if statuses is not None:
-                part[statuses == MISSING] = _NO_LENGTH
-        return pandas.array(counts.view("m8[ns]"), copy=False)
+        return pandas.array(_blocks.lengths(self._rows, earlier).view("m8[ns]"), copy=False)
 
     def min(self, *, axis: Any = None, skipna: bool = True) -> Any:
         """The first instant. An index of pandas asks for it."""
@@ -729,7 +396,7 @@ class MomentArray(ExtensionArray):
             return pandas.NaT if is_gap else self._deviation(**words)
         found = pandas.NA
         if name in ("min", "max") and not is_gap:
-            found = self._item(_end_of(self._rows, name))
+            found = self._item(self._rows[self.argmin() if name == "min" else self.argmax()])
         elif name == "median" and not is_gap:
             found = self._quantile([0.5], "linear")[0]
         elif not is_gap:
@@ -758,48 +425,44 @@ class MomentArray(ExtensionArray):
     def _quantile(self, qs: Any, interpolation: str) -> MomentArray:
         """The moments at these shares of the column in its order, each at the offset of the one
         before it."""
-        order = numpy.flatnonzero(~self.isna())[numpy.argsort(self._ranks()[~self.isna()], kind="stable")]
-        if not len(order):
+        count = int((~self.isna()).sum())
+        if not count:
             return self._from_sequence([pandas.NA] * len(qs))
-        places = numpy.asarray(qs, float) * (len(order) - 1)
-        low, high = (self.take(order[ends(places).astype("intp")]) for ends in (numpy.floor, numpy.ceil))
-        share = {
-            "lower": 0 * places,
-            "higher": 0 * places + 1,
-            "midpoint": (places % 1 > 0) / 2,
-            "nearest": numpy.round(places) > places,
-        }
-        shares = share.get(interpolation, places % 1)
-        found = [one + Duration(0, int((other - one).whole_nanoseconds() * part)) for one, other, part in zip(low, high, shares)]
+        places = numpy.asarray(qs, float) * (count - 1)
+        of_one = {"lower": numpy.floor, "higher": numpy.ceil, "nearest": numpy.round}.get(interpolation)
+        if of_one is not None:
+            places = of_one(places)
+        low, high = self._at_shares(places)
+        shares = (places % 1 > 0) / 2 if interpolation == "midpoint" else places % 1
+        # A product with a float would be off by hundreds of nanoseconds.
+        found = [
+            one + Duration(0, int((other - one).whole_nanoseconds() * Fraction(part)))
+            for one, other, part in zip(low, high, shares)
+        ]
         return self._from_sequence(found)
 
     # What clocks show.
 
     def parts(self) -> Any:
         """The parts of each moment: items of DateTimeParts, of zeros for a gap."""
-        shown, statuses = numpy.zeros(len(self), numpy.dtype(DateTimeParts)), numpy.zeros(len(self), "uint32")
-        columns.date_times_from_each_moment(self._rows, shown, statuses)
-        columns.first_error(statuses)
-        return shown
+        return _blocks.parts_shown(self._rows)
 
     def texts(self, errors: str = "raise") -> Any:
         """The text of RFC 3339 of each moment, and NA for a gap. With errors="coerce" a moment
         outside the years 0 to 9999 is NA too."""
-        texts, known = numpy.full(len(self), pandas.NA, object), ~self.isna()
-        found = rfc3339_from_date_times(self.parts()[known], errors)
-        texts[known] = [pandas.NA if text is None else text for text in found]
+        return self._texts_by(lambda parts: rfc3339_from_date_times(parts, errors))
+
+    def _texts_by(self, write: Callable[[Any], Any]) -> Any:
+        """The text that a call writes of each moment, and NA for a gap and for None."""
+        texts, places = numpy.full(len(self), pandas.NA, object), numpy.flatnonzero(~self.isna())
+        with _named_rows(places):
+            found = write(self.parts()[places])
+        texts[places] = numpy.fromiter((pandas.NA if text is None else text for text in found), object, len(places))
         return texts
 
     def format_texts(self, description: str) -> Any:
         """The text of each moment by a format description, and NA for a gap."""
-        texts, places = numpy.full(len(self), pandas.NA, object), numpy.flatnonzero(~self.isna())
-        try:
-            texts[places] = texts_from_date_times(self.parts()[places], description)
-        except Refused as refused:
-            if refused.count is None:
-                raise
-            raise type(refused)(int(places[refused.count])) from None
-        return texts
+        return self._texts_by(lambda parts: texts_from_date_times(parts, description))
 
     def strftime(self, pattern: str) -> Any:
         """The text of each moment by a pattern of strftime, and NA for a gap."""
@@ -838,12 +501,14 @@ class MomentArray(ExtensionArray):
     def _datetime64(self, errors: str = "raise") -> Any:
         """The instants as datetime64 of nanoseconds in UTC. OverflowError beyond the years 1677 to
         2262, or with errors="coerce" NaT."""
-        rows, gaps = self._rows, self.isna()
-        is_far = ~gaps & (numpy.abs(rows["seconds"]) >= _FIRST_LONG)
-        if is_far.any() and not test_errors(errors):
-            raise OverflowError(f'item {int(is_far.argmax())} is outside the years of datetime64: use errors="coerce"')
-        counts = numpy.where(gaps | is_far, 0, rows["seconds"]) * 1_000_000_000 + rows["nanoseconds"]
-        counts[gaps | is_far] = numpy.iinfo("int64").min
+        counts = nanoseconds_of(self._rows)
+        if counts is None:
+            rows, gaps = self._rows, self.isna()
+            is_far = ~gaps & (numpy.abs(rows["seconds"]) >= FIRST_LONG)
+            if not test_errors(errors):
+                raise OverflowError(f'item {int(is_far.argmax())} is outside the years of datetime64: use errors="coerce"')
+            counts = numpy.where(gaps | is_far, 0, rows["seconds"]) * 1_000_000_000 + rows["nanoseconds"]
+            counts[gaps | is_far] = NO_LENGTH
         return counts.view("M8[ns]")
 
     def __arrow_array__(self, type: Any = None) -> Any:
@@ -871,12 +536,28 @@ class MomentArray(ExtensionArray):
         return self._as_arrow().__arrow_c_stream__(requested_schema)
 
     def to_offset(self, offset_seconds: Any) -> MomentArray:
-        """The same instants at another offset."""
-        return self._change(columns.moments_to_offset, columns.each_moment_to_offset, offset_seconds)
+        """The same instants at another offset, or each at the offset of its place. A row without an
+        offset is a gap."""
+        if is_list_like(offset_seconds):
+            offsets = pandas.array(offset_seconds, dtype="Int64")
+            rows = numpy.where(offsets.isna(), wide(rows_of([None])), wide(self._rows)).view(ROW)
+            least, most = -(2**31), 2**31 - 1
+            return MomentArray(_blocks.at_offsets(rows, offsets.to_numpy("int64", na_value=0).clip(least, most)))
+        return MomentArray(_blocks.change(_engine.moments_to_offset_past_gaps, self._rows, offset_number(offset_seconds)))
+
+    def to_zone(self, zone: ZoneOrName) -> MomentArray:
+        """The same instants on the clocks of a zone, each at the offset that the zone has then."""
+        known = numpy.flatnonzero(~self.isna())
+        if len(known) == len(self):
+            return MomentArray(columns.moments_to_zone(in_place(self._rows), zone))
+        made = numpy.full(len(self), numpy.array(GAP, ROW))
+        with _named_rows(known):
+            made[known] = columns.moments_to_zone(self._rows[known], zone)
+        return MomentArray(made)
 
     def truncated_to(self, unit: Unit) -> MomentArray:
         """Each moment, rounded down to a Unit by its own clocks."""
-        return self._change(columns.moments_truncate, columns.each_moment_truncate, unit)
+        return MomentArray(_blocks.change(_engine.moments_truncate_past_gaps, self._rows, number_of_unit(unit)))
 
     def floor(self, step: Any) -> MomentArray:
         """Each moment, rounded down to a step by its own clocks."""
@@ -884,15 +565,18 @@ class MomentArray(ExtensionArray):
 
     def add_months(self, months: int) -> MomentArray:
         """Each moment some months later, on the last day of a month that is shorter."""
-        return self._change(columns.moments_add_months, columns.each_moment_add_months, months)
+        return MomentArray(_blocks.change(_engine.moments_add_months_past_gaps, self._rows, limit(months, ctypes.c_int32)))
 
 
-def _items_of(rows: Any) -> list[Any]:
-    """The date-time of each row, and NA for a gap."""
-    items, status = _engine.items_from_moments(numpy.ascontiguousarray(rows), len(rows), pandas.NA)
-    if status:
-        raise REFUSALS[status](len(items))
-    return list(items)
+@contextlib.contextmanager
+def _named_rows(places: Any) -> Iterator[None]:
+    """Raises the error of a call over the rows at these places with the place of the row."""
+    try:
+        yield
+    except Refused as refused:
+        if refused.count is None:
+            raise
+        raise type(refused)(int(places[refused.count])) from None
 
 
 def _text(moment: OffsetDateTime) -> str:
@@ -946,14 +630,13 @@ class MomentAccessor:
 
     def isocalendar(self) -> Any:
         """The ISO year, week and day, 1 for Monday, of the local date of each moment: a table."""
-        found = {}
+        found, dates, gaps = {}, _steps.dates_of(self._array), self._array.isna()
         for name, read in (
             ("year", lambda date: date.to_iso_week_date().year),
             ("week", lambda date: date.to_iso_week_date().week),
             ("day", lambda date: date.weekday() + 1),
         ):
-            values = _steps.of_dates(self._array, read, "int64", 0)
-            found[name] = pandas.arrays.IntegerArray(values, self._array.isna())
+            found[name] = pandas.arrays.IntegerArray(_steps.of_known_dates(dates, read, "int64", 0), gaps.copy())
         index = self._series if isinstance(self._series, pandas.Index) else self._series.index
         return pandas.DataFrame(found, index)
 
@@ -962,8 +645,13 @@ class MomentAccessor:
         return self.to_offset(0)
 
     def to_offset(self, offset_seconds: Any) -> Any:
-        """The same instants at another offset, in seconds."""
+        """The same instants at another offset, in seconds, or each at its own of a column."""
         return self._column(self._array.to_offset(offset_seconds))
+
+    def to_zone(self, zone: ZoneOrName) -> Any:
+        """The same instants on the clocks of a zone, each at the offset that the zone has then: of
+        a Zone, or of the name of one."""
+        return self._column(self._array.to_zone(zone))
 
     def floor(self, step: Any) -> Any:
         """Each moment, rounded down by its own clocks to a unit from "day" to "nanosecond", to a
@@ -1029,8 +717,8 @@ def date_range(start: Any, end: Any = None, periods: Any = None, freq: Any = "da
     or a "year"."""
     if (end is None) == (periods is None):
         raise TypeError("date_range() needs an end or a number of periods, and takes one of them")
-    last = None if end is None else _as_date_time(end)
-    return MomentArray(_steps.rows_from(_as_date_time(start), last, None if periods is None else to_int(periods), freq))
+    last = None if end is None else as_date_time(end)
+    return MomentArray(_steps.rows_from(as_date_time(start), last, None if periods is None else to_int(periods), freq))
 
 
 def _keys_of(left: MomentArray, right: MomentArray) -> tuple[Any, Any, bool]:
@@ -1063,50 +751,39 @@ def merge_asof(
     return pandas.merge_asof(first, other, on=_KEY, tolerance=whole, **words).drop(columns=_KEY)
 
 
-def from_texts(texts: Any, errors: str = "raise", offset_seconds: Any = None) -> MomentArray:
-    """The column of texts of RFC 3339. With errors="coerce" an invalid text is a gap.
+def from_texts(texts: Any, errors: str = "raise", offset_seconds: Any = None, pattern: Optional[str] = None) -> MomentArray:
+    """The column of texts of RFC 3339, or of a format description. With errors="coerce" an invalid
+    text is a gap.
 
     With `offset_seconds` a text can lack an offset, as 2024-02-29 12:34:56: it then has that
     offset, which is one for all texts or one for each. An offset in a text comes first.
     """
-    is_coerced, items = test_errors(errors), list(texts)
-    rows, statuses = numpy.zeros(len(items), ROW), numpy.zeros(len(items), "uint32")
-    columns.moments_from_each_rfc3339(items, None, rows, statuses)
-    if offset_seconds is not None:
-        _read_plain_texts(items, offset_seconds, rows, statuses)
-    return _of_rows(rows, statuses, is_coerced)
+    return MomentArray(rows_of_texts(Texts(texts), test_errors(errors), pattern, offset_seconds))
 
 
-def _read_plain_texts(items: list[Any], offset_seconds: Any, rows: Any, statuses: Any) -> None:
-    """Reads the texts that lack an offset, of those that are no RFC 3339."""
-    places = numpy.flatnonzero(statuses == RefusedSyntax.status)
-    offsets = offset_seconds
-    if one_offset(offset_seconds) is None:
-        each = list(offset_seconds)
-        if len(each) != len(items):
-            raise ValueError(f"there must be one offset, or one for each text: {len(items)}, not {len(each)}")
-        offsets = [each[place] for place in places]
-    if len(places):
-        texts, found = [items[place] for place in places], (rows[places], statuses[places])
-        rows[places], statuses[places] = columns.moments_from_each_plain_text(texts, offsets, *found)
+def from_block(
+    block: Any, spans: Any, errors: str = "raise", offset_seconds: Any = None, pattern: Optional[str] = None
+) -> MomentArray:
+    """The column of the texts at the spans of a block of bytes. The other words are those of
+    from_texts."""
+    return MomentArray(rows_of_texts(Texts(block, spans), test_errors(errors), pattern, offset_seconds))
 
 
-def from_block(block: Any, spans: Any, errors: str = "raise") -> MomentArray:
-    """The column of the texts at the spans of a block of bytes. With errors="coerce" an invalid
-    text is a gap."""
-    is_coerced = test_errors(errors)
-    rows, statuses = numpy.zeros(len(spans), ROW), numpy.zeros(len(spans), "uint32")
-    columns.moments_from_each_rfc3339(block, spans, rows, statuses)
-    return _of_rows(rows, statuses, is_coerced)
-
-
-def _of_rows(rows: Any, statuses: Any, is_coerced: bool) -> MomentArray:
-    """The column of the rows of a call of `each`: a gap for each that failed, or the error of the
-    first."""
-    if not is_coerced:
-        return MomentArray(_check(rows, statuses))
-    rows[statuses != 0] = _GAP
-    return MomentArray(rows)
+def from_csv(
+    block: Any,
+    field: int = 0,
+    separator: Any = ",",
+    pattern: Optional[str] = None,
+    errors: str = "raise",
+    offset_seconds: Any = None,
+    quote: Any = '"',
+    skip: int = 0,
+) -> MomentArray:
+    """The column of a field of each line of a block of bytes, after some lines to skip. Fields
+    count from 0. A field without a text is a gap. No line becomes an object. `separator` and
+    `quote` are those of muxandu.fields.field_spans, and the other words those of from_texts."""
+    spans = numpy.asarray(field_spans(block, field, separator, quote))[skip:]
+    return MomentArray(rows_of_texts(Texts(block, spans, True), test_errors(errors), pattern, offset_seconds))
 
 
 def from_arrow(column: Any) -> MomentArray:

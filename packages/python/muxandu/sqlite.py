@@ -23,9 +23,13 @@ functions.
 from __future__ import annotations
 
 import sqlite3
-from typing import Any, Callable, NamedTuple, Union
+from typing import Any, Callable, NamedTuple, Optional, Union
 
-from . import Date, Duration, OffsetDateTime, Refused, RefusedResult, Timestamp, Unit
+from . import Date, Duration, OffsetDateTime, PlainDateTime, Refused, RefusedResult, RefusedSyntax, Timestamp, Unit, Zone
+from ._clocks import Choice
+from ._formats import lacks_offset
+from ._own_texts import offset as offset_of_text
+from ._zones import UnknownZoneError, ZoneError, ZoneNameError
 
 __all__ = ["Functions", "register"]
 
@@ -45,6 +49,9 @@ _NANOSECONDS = {
 # The units of `muxandu_unix`.
 _COUNTED = ("nanosecond", "microsecond", "millisecond", "second")
 
+# What a call does with a time that the clocks of a zone skip, or show twice.
+_CHOICES: tuple[Choice, ...] = ("compatible", "earlier", "later", "reject")
+
 # A float has each whole number up to this one.
 _MOST_EXACT = 2.0**53
 
@@ -60,13 +67,14 @@ class _Invalid(ValueError):
 
 
 class _Function(NamedTuple):
-    """A function of SQL: its name, its least and its greatest number of arguments, and what it
-    returns."""
+    """A function of SQL: its name, its least and its greatest number of arguments, what it returns,
+    and whether that is the same each time. Files of time zones may change."""
 
     name: str
     least: int
     most: int
     run: Callable[..., _Value]
+    is_deterministic: bool = True
 
 
 def _wrong_type() -> _Invalid:
@@ -86,6 +94,11 @@ def _to_int(value: _Value) -> int:
     if isinstance(value, float) and abs(value) <= _MOST_EXACT and value.is_integer():
         return int(value)
     raise _wrong_type()
+
+
+def _offset(value: _Value) -> int:
+    """The seconds of an offset, which is a number or a text such as +02:00."""
+    return offset_of_text(value) if isinstance(value, str) else _to_int(value)
 
 
 def _date_time(value: _Value) -> OffsetDateTime:
@@ -109,7 +122,7 @@ def _unit(value: _Value, names: tuple[str, ...] = tuple(_NANOSECONDS)) -> str:
     raise _Invalid(
         "UNIT",
         "An unknown unit: pass 'nanosecond', 'microsecond', 'millisecond', 'second', 'minute', 'hour' or 'day', "
-        "or 'month' or 'year' in muxandu_truncate; muxandu_unix has none above a second.",
+        "or 'week', 'month', 'quarter' or 'year' in muxandu_truncate; muxandu_unix has none above a second.",
     )
 
 
@@ -124,27 +137,81 @@ def _nanoseconds(at: Timestamp) -> int:
     return at.seconds * _NANOSECONDS["second"] + at.nanoseconds
 
 
-def _unix(at: _Value, unit: _Value = "second") -> _Value:
-    instant = _instant(at)
+def _count(instant: Timestamp, unit: _Value) -> _Value:
     return _in_64_bits(_nanoseconds(instant) // _NANOSECONDS[_unit(unit, _COUNTED)])
 
 
+def _unix(at: _Value, unit: _Value = "second") -> _Value:
+    return _count(_instant(at), unit)
+
+
+def _from_iso(at: _Value, unit: _Value = "second") -> _Value:
+    return _count(OffsetDateTime.from_iso(_text(at)).to_timestamp(), unit)
+
+
+def _at_second(seconds: _Value, offset: _Value, nanosecond: _Value) -> OffsetDateTime:
+    whole = _to_int(seconds), _offset(offset), _to_int(nanosecond)
+    return Timestamp(whole[0], whole[2]).to_offset(whole[1])
+
+
 def _of_unix(seconds: _Value, offset: _Value = 0, nanosecond: _Value = 0) -> _Value:
-    whole = _to_int(seconds), _to_int(offset), _to_int(nanosecond)
-    return Timestamp(whole[0], whole[2]).to_offset(whole[1]).to_rfc3339()
+    return _at_second(seconds, offset, nanosecond).to_rfc3339()
+
+
+def _to_iso(seconds: _Value, offset: _Value = 0, nanosecond: _Value = 0) -> _Value:
+    return _at_second(seconds, offset, nanosecond).to_iso()
+
+
+def _zone(value: _Value) -> Zone:
+    name = _text(value)
+    try:
+        return Zone(name)
+    except (ZoneNameError, UnknownZoneError):
+        told = "An unknown time zone: pass the name of a file below /usr/share/zoneinfo, such as 'Europe/Berlin'."
+        raise _Invalid("ZONE", told) from None
+    except (ZoneError, Refused):
+        told = "A file that is no time zone of RFC 9636, or of one that counts leap seconds."
+        raise _Invalid("ZONE_FILE", told) from None
+
+
+def _at_zone(at: _Value, zone: _Value) -> _Value:
+    instant = _instant(at)
+    return instant.to_zone(_zone(zone)).to_rfc3339()
+
+
+def _choice(value: _Value) -> Choice:
+    text = _text(value)
+    for choice in _CHOICES:
+        if text.isascii() and text.lower() == choice:
+            return choice
+    raise _Invalid("CHOICE", "An unknown choice: pass 'compatible', 'earlier', 'later' or 'reject'.")
+
+
+def _from_local(text: _Value, zone: _Value, choice: _Value = "reject") -> _Value:
+    local, found = PlainDateTime.from_rfc3339(_text(text)), _zone(zone)
+    return local.at_zone(found, _choice(choice)).to_rfc3339()
 
 
 def _to_offset(at: _Value, offset: _Value) -> _Value:
-    return _date_time(at).to_offset(_to_int(offset)).to_rfc3339()
+    return _date_time(at).to_offset(_offset(offset)).to_rfc3339()
 
 
 def _sortable(at: _Value) -> _Value:
     return _instant(at).to_rfc3339_nanos()
 
 
-def _add(at: _Value, number: _Value, unit: _Value = "second") -> _Value:
-    start, count = _date_time(at), _to_int(number)
-    return (start + Duration(0, count * _NANOSECONDS[_unit(unit)])).to_rfc3339()
+def _duration(value: _Value, unit: Optional[_Value] = None) -> Duration:
+    """The duration of a text such as 1h30m, or of a number of units, which are seconds where no
+    unit is."""
+    if unit is None and isinstance(value, str):
+        return Duration._of_words(value)
+    count = _to_int(value)
+    return Duration(0, count * _NANOSECONDS["second" if unit is None else _unit(unit)])
+
+
+def _add(at: _Value, *length: _Value) -> _Value:
+    start = _date_time(at)
+    return (start + _duration(*length)).to_rfc3339()
 
 
 def _add_months(at: _Value, months: _Value) -> _Value:
@@ -155,13 +222,54 @@ def _add_months(at: _Value, months: _Value) -> _Value:
     return start.replace(year=date.year, month=date.month, day=date.day).to_rfc3339()
 
 
+def _first_day(at: OffsetDateTime, unit: str) -> Optional[Date]:
+    """The first day of the week, month, quarter or year, and None of another unit."""
+    if _is_named(unit, "week"):
+        date = Date(at.year, at.month, at.day)
+        return date.add_days(-date.weekday())
+    if _is_named(unit, "month"):
+        return Date(at.year, at.month, 1)
+    if _is_named(unit, "quarter"):
+        return Date(at.year, (at.month - 1) // 3 * 3 + 1, 1)
+    return Date(at.year, 1, 1) if _is_named(unit, "year") else None
+
+
 def _truncate(at: _Value, unit: _Value) -> _Value:
     start, text = _date_time(at), _text(unit)
-    if _is_named(text, "month"):
-        return start.replace(day=1).truncated_to(Unit.DAY).to_rfc3339()
-    if _is_named(text, "year"):
-        return start.replace(month=1, day=1).truncated_to(Unit.DAY).to_rfc3339()
+    day = _first_day(start, text)
+    if day is not None:
+        return start.replace(year=day.year, month=day.month, day=day.day).truncated_to(Unit.DAY).to_rfc3339()
     return start.truncated_to(Unit[_unit(text).upper()]).to_rfc3339()
+
+
+def _bin(at: _Value, *words: _Value) -> _Value:
+    start, step = _date_time(at), _duration(*words[:-1]).whole_nanoseconds()
+    if step <= 0:
+        raise _Invalid("STEP", "A step that is not above 0.")
+    past = (_nanoseconds(_instant(at)) - _nanoseconds(_instant(words[-1]))) % step
+    return (start - Duration(0, past)).to_rfc3339()
+
+
+def _local_date(at: _Value) -> _Value:
+    start = _date_time(at)
+    return Date(start.year, start.month, start.day).to_rfc3339()
+
+
+def _format(at: _Value, description: _Value) -> _Value:
+    return _date_time(at).format(_text(description))
+
+
+def _parse(text: _Value, description: _Value, *offset: _Value) -> _Value:
+    source, form, offsets = _text(text), _text(description), [_offset(each) for each in offset]
+    try:
+        return OffsetDateTime.parse(source, form).to_rfc3339()
+    except RefusedSyntax as refused:
+        if not offsets or not lacks_offset(refused):
+            raise
+    shown = PlainDateTime.parse(source, form)
+    date, time = shown.date(), shown.time()
+    parts = date.year, date.month, date.day, time.hour, time.minute, time.second, time.nanosecond
+    return OffsetDateTime(*parts, *offsets).to_rfc3339()
 
 
 def _difference(later: _Value, earlier: _Value, unit: _Value = "second") -> _Value:
@@ -187,13 +295,21 @@ def _error_name(at: _Value) -> _Value:
 _CALLS = (
     _Function("muxandu_unix", 1, 2, _unix),
     _Function("muxandu_text", 1, 3, _of_unix),
+    _Function("muxandu_from_iso", 1, 2, _from_iso),
+    _Function("muxandu_to_iso", 1, 3, _to_iso),
     _Function("muxandu_to_offset", 2, 2, _to_offset),
     _Function("muxandu_sortable", 1, 1, _sortable),
     _Function("muxandu_add", 2, 3, _add),
     _Function("muxandu_add_months", 2, 2, _add_months),
     _Function("muxandu_truncate", 2, 2, _truncate),
+    _Function("muxandu_bin", 3, 4, _bin),
+    _Function("muxandu_local_date", 1, 1, _local_date),
+    _Function("muxandu_format", 2, 2, _format),
+    _Function("muxandu_parse", 2, 3, _parse),
     _Function("muxandu_difference", 2, 3, _difference),
     _Function("muxandu_compare", 2, 2, _compare),
+    _Function("muxandu_at_zone", 2, 2, _at_zone, False),
+    _Function("muxandu_from_local", 2, 3, _from_local, False),
 )
 
 
@@ -225,12 +341,12 @@ class Functions:
 
 def register(connection: sqlite3.Connection) -> Functions:
     """Gives a connection the functions of SQL: muxandu_unix, muxandu_text and the others of
-    docs/guide/SQL.md, but muxandu_parts."""
+    docs/guide/SQL.md, but the table muxandu_parts."""
     functions = Functions()
     define: Any = connection.create_function
     for call in (*_CALLS, _Function("muxandu_refused", 1, 1, _error_name)):
         for count in range(call.least, call.most + 1):
-            define(call.name, count, functions._answers(call, False), deterministic=True)
+            define(call.name, count, functions._answers(call, False), deterministic=call.is_deterministic)
             if call in _CALLS:
-                define(f"{call.name}_or_null", count, functions._answers(call, True), deterministic=True)
+                define(f"{call.name}_or_null", count, functions._answers(call, True), deterministic=call.is_deterministic)
     return functions

@@ -115,7 +115,7 @@ class Datetimes(unittest.TestCase):
         self.assertRaises(ValueError, OffsetDateTime(2024, 1, 1, offset_seconds=86_400).to_datetime)
 
     def test_zones_are_kept_and_not_mixed(self):
-        offsets = [0, 3_600, 3_600, -3_600, 0, 60]
+        offsets = [0, 3_600, 3_600, -3_600, 0, 60, 61, 3_900]
         made = [OffsetDateTime(2024, 1, 1, offset_seconds=offset).to_datetime() for offset in offsets]
         self.assertEqual([at.utcoffset().total_seconds() for at in made], offsets)
         self.assertIs(made[0].tzinfo, datetime.timezone.utc)

@@ -312,6 +312,8 @@ class Rest(unittest.TestCase):
             (lambda: OffsetDateTime.from_rfc3339("2024-02-30T00:00:00Z"), "2024-02-30T00:00:00Z", None),
             (lambda: Timestamp.from_rfc3339("2024-02-29T12:34:56+0100"), "2024-02-29T12:34:56+0100", 22),
             (lambda: OffsetDateTime.from_rfc3339_front(b"1985-04-12 done"), b"1985-04-12 done", 11),
+            (lambda: OffsetDateTime.from_iso("-004712"), "-004712", 7),
+            (lambda: Duration._of_words("2024-02-29"), "2024-02-29", 4),
             (lambda: Date.from_rfc3339("20240229"), "20240229", 4),
             (lambda: muxandu.timestamps_from_rfc3339(["1970-01-01T00:00:00Z", "soon"]), "soon", None),
             (lambda: muxandu.date_times_from_rfc3339(["soon"]), "soon", None),

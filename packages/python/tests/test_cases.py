@@ -15,7 +15,7 @@ INTERFACE, CASES, METHODS = (
     ROOT / name for name in ("packages/c/interface.json", "packages/c/tests/cases.json", "make/python_methods.py")
 )
 
-NUMBERS = {"u8": ctypes.c_uint8, "u32": ctypes.c_uint32, "i32": ctypes.c_int32, "i64": ctypes.c_int64}
+NUMBERS = {"u8": ctypes.c_uint8, "u32": ctypes.c_uint32, "i32": ctypes.c_int32, "i64": ctypes.c_int64, "usize": ctypes.c_size_t}
 STATUSES = {"OK": 0} | {refusal.name: status for status, refusal in REFUSALS.items()}
 CLASSES = {"MuxanduTimestamp": Timestamp, "MuxanduDateTime": OffsetDateTime, "MuxanduDuration": Duration}
 ENUMS = {"MuxanduUnit": Unit, "MuxanduPart": Part, "MuxanduStatus": STATUSES}
@@ -126,7 +126,8 @@ class Cases(unittest.TestCase):
 
     def test_calls_over_many_items(self):
         count = 0
-        for call in (name for name in self.rows if self.calls[f"muxandu_{name}"]["result"] == "MuxanduBatch"):
+        many = {name for name in self.rows if self.calls[f"muxandu_{name}"]["result"] == "MuxanduBatch"}
+        for call in sorted(many - {*self.tables.OF_ZONES}):
             for row in self.rows[call]:
                 with self.subTest(call=call, row=row):
                     self.compare_batch(call, row)
@@ -144,8 +145,8 @@ class Cases(unittest.TestCase):
             else:
                 is_name = isinstance(value, str)
                 words.append(ENUMS[one["type"]][value] if is_name and one["type"] in ENUMS else ord(value) if is_name else value)
-        for one in self.parameters(call, "items out", "room"):
-            items = answer[one["name"]]
+        for one in self.parameters(call, "items out", "room", "out"):
+            items = [answer[one["name"]]] if one["role"] == "out" else answer[one["name"]]
             if one["role"] == "room":
                 outs.append((bytearray(b"!" * len(items)), items.encode()))
             else:

@@ -4,6 +4,7 @@ import datetime
 import os
 import pickle
 import random
+import re
 import unittest
 
 import muxandu
@@ -67,6 +68,10 @@ class Formats(unittest.TestCase):
         self.assertEqual(UtcDateTime.parse("2024022912", pattern), UtcDateTime(2024, 2, 29, 12))
         self.assertEqual(Timestamp.parse("2024022912", pattern), UtcDateTime(2024, 2, 29, 12).to_timestamp())
         self.assertEqual(Timestamp.parse("-1.5", "[unix_timestamp].[subsecond]"), Timestamp(-1, 500_000_000))
+        for at in (Timestamp(1_709_166_600, 500_000_001), Timestamp(-2, 499_999_999)):
+            for unit in ("millisecond", "microsecond"):
+                pattern = f"[unix_timestamp precision:{unit}] [subsecond]"
+                self.assertEqual(Timestamp.parse(at.format(pattern), pattern), at)
         self.assertEqual(UtcOffset(-1_800).format("[offset_hour sign:mandatory]:[offset_minute]"), "-00:30")
         self.assertEqual(UtcOffset.parse("-00:30", "[offset_hour]:[offset_minute]"), UtcOffset(-1_800))
 
@@ -127,6 +132,21 @@ class Formats(unittest.TestCase):
         self.assertRaises(muxandu.RefusedSyntax, OffsetDateTime.parse, "2024-02-29 12", "[year]-[month]-[day] [hour]")
         self.assertRaises(muxandu.RefusedResult, Timestamp.parse, "3600 02", "[unix_timestamp] [hour]")
         self.assertEqual(Timestamp.parse("3600 01", "[unix_timestamp] [hour]"), Timestamp(3_600))
+
+    def test_fronts(self):
+        line = '29/Feb/2024:12:34:56 +0530] "GET / HTTP/1.1" 200'
+        pattern = "[day]/[month repr:short]/[year]:[hour]:[minute]:[second] [offset_hour sign:mandatory][offset_minute]"
+        read, rest = OffsetDateTime.parse_front(line, pattern)
+        self.assertEqual((read.to_rfc3339(), rest), ("2024-02-29T12:34:56+05:30", '] "GET / HTTP/1.1" 200'))
+        self.assertEqual(OffsetDateTime.parse_front(line.encode(), pattern)[1], rest.encode())
+        self.assertEqual(Date.parse_front("2024-02-29é", "[year]-[month]-[day]"), (Date(2024, 2, 29), "é"))
+        self.assertEqual(Date.parse_front("2024-02-29", "[year]-[month]-[day]"), (Date(2024, 2, 29), ""))
+        self.assertEqual(Timestamp.parse_front("1709206200 x", "[unix_timestamp]"), (Timestamp(1_709_206_200), " x"))
+        with self.assertRaises(muxandu.RefusedSyntax) as told:
+            Date.parse_front("2024-2-29 x", "[year]-[month]-[day]")
+        self.assertEqual(told.exception.place, 5)
+        with self.assertRaises(muxandu.RefusedResult):
+            Date.parse_front("2023-02-29 x", "[year]-[month]-[day]")
 
     def test_places_of_wrong_parts(self):
         form = "[year]-[month]-[day][optional [ [weekday repr:short]]]"
@@ -225,7 +245,7 @@ class Formats(unittest.TestCase):
                 with self.assertRaises(muxandu.RefusedResult) as caught:
                     kind.parse(text, pattern)
                 self.assertEqual(caught.exception.reason, f"{part} is out of range ({numbers}), or contradicts another part")
-        self.assertEqual(sum(" to " in reason for reason in _formats.REASONS.values()), 18)
+        self.assertEqual(sum(bool(re.search(r", -?\d+ to -?\d+\.$", reason)) for reason in _formats.REASONS.values()), 18)
 
     def test_patterns_are_kept(self):
         _formats.items_of.cache_clear()

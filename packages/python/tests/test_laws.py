@@ -30,6 +30,8 @@ from muxandu import (
     Timestamp,
     UtcDateTime,
     UtcOffset,
+    Zone,
+    columns,
 )
 from muxandu import _extension as engine
 from muxandu._refusals import REFUSALS
@@ -45,6 +47,7 @@ NANO = 10**9
 DAY = 86_400
 OFFSETS = (-93_599, -3_600, 0, 60, 93_599)
 TEXT = "2024-02-28T23:30:00.5-01:00"
+BERLIN = Zone.from_rule("CET-1CEST,M3.5.0,M10.5.0/3")
 
 
 class Draw:
@@ -272,7 +275,8 @@ class Laws(unittest.TestCase):
     def test_many_of_the_longest_texts(self):
         at = OffsetDateTime(9999, 12, 31, 23, 59, 59, 999_999_999, -86_340)
         self.assertEqual(len(at.to_rfc3339()), 35)
-        self.assertEqual(muxandu.rfc3339_from_date_times([at] * 50), [at.to_rfc3339()] * 50)
+        for many in ([at] * 50, (at,) * 50):
+            self.assertEqual(muxandu.rfc3339_from_date_times(many), [at.to_rfc3339()] * 50)
 
 
 class Clock(unittest.TestCase):
@@ -347,6 +351,7 @@ class Kept(unittest.TestCase):
         "a list of texts": lambda: muxandu.timestamps_from_rfc3339([TEXT, bytearray(TEXT.encode())]),
         "a list of refused texts": lambda: refused(lambda: muxandu.timestamps_from_rfc3339([TEXT, "x"])),
         "a list of instants": lambda: muxandu.rfc3339_from_timestamps([Timestamp(0)] * 3),
+        "a sequence of instants": lambda: muxandu.rfc3339_from_timestamps((Timestamp(0),) * 3),
         "seconds": lambda: muxandu.date_times_from_seconds(array("q", [0, 1])),
         "moments as objects": lambda: engine.items_from_moments(bytearray(48), 3, None),
         "moments as objects, up to one out of range": lambda: engine.items_from_moments(b"\0" * 20 + b"\xff" * 28, 3, None),
@@ -371,6 +376,20 @@ class Kept(unittest.TestCase):
         ),
         "the clock now": lambda: (OffsetDateTime.now(60), UtcDateTime.now(), refused(lambda: OffsetDateTime.now(10**6))),
         "formats": lambda: (f"{OffsetDateTime(2024, 2, 29):%d.%m.%Y}", f"{Date(2024, 2, 29):%d}", f"{Time(1):%H}"),
+        "a time zone": lambda: (
+            Zone.from_rule("UTC0"),
+            refused(lambda: Zone.from_rule("UTC")),
+            refused_by_python(lambda: Zone("../x")),
+        ),
+        "clocks of a time zone": lambda: (
+            Timestamp(0).to_zone(BERLIN),
+            BERLIN.offset_at(OffsetDateTime(2024, 1, 1)),
+            BERLIN.next_transition(Timestamp(0)),
+            *(BERLIN.instants_of(PlainDateTime(2024, month, day, 2)) for month, day in ((3, 31), (7, 1), (10, 27))),
+            PlainDateTime(2024, 3, 31, 2).at_zone(BERLIN),
+            refused(lambda: PlainDateTime(2024, 3, 31, 2).at_zone(BERLIN, "reject")),
+            columns.moments_to_zone([OffsetDateTime(2024, 1, 1)], BERLIN),
+        ),
         "sums and hashes": lambda: hash(Timestamp(5) + Duration(7)),
         "texts": lambda: (str(Timestamp(10**6, 5)), repr(OffsetDateTime(2024, 2, 29)), str(Date(2024, 2, 29))),
     }

@@ -290,6 +290,7 @@ class Moments(unittest.TestCase):
             moved = one + DAY
             self.assertEqual((type(moved), moved - one, moved - Duration(86_400)), (type(one), Duration(86_400), one))
             self.assertEqual((one.truncated_to(Unit.DAY), one.replace(hour=0).hour), (type(one)(2024, 2, 29), 0))
+            self.assertRaisesRegex(TypeError, "the unit must be a Unit, as Unit.DAY, not 'day'", one.truncated_to, "day")
             self.assertEqual((one.date(), one.time(), one.day_number()), (Date(2024, 2, 29), Time(12, 34, 56, 789), 19_782))
             self.assertEqual(type(one).new(one.date(), one.time()), one)
             self.assertTrue(one < moved <= moved and moved > one >= one)
@@ -578,6 +579,17 @@ class Package(unittest.TestCase):
                 self.assertGreater(len(told), 8, (kind, name))
                 for other in ("muxandu_", "MUXANDU_", "BUFFER", "`size`"):
                     self.assertNotIn(other, told, (kind, name))
+
+    def test_texts_of_every_year(self):
+        for text, *parts in (
+            ("-004712-11-24T12:00:00Z", -4712, 11, 24, 12),
+            ("2024-02-29T12:34:56.5+01:19:32", 2024, 2, 29, 12, 34, 56, 500_000_000, 4772),
+            ("+999999-12-31T23:59:59.999999999Z", 999_999, 12, 31, 23, 59, 59, 999_999_999),
+        ):
+            at = OffsetDateTime(*parts)
+            self.assertEqual((at.to_iso(), OffsetDateTime.from_iso(text).is_same(at)), (text, True))
+        with self.assertRaises(muxandu.RefusedSyntax):
+            OffsetDateTime.from_iso("-4712-11-24T12:00:00Z")
 
     def test_errors_name_the_types_by_their_public_names(self):
         at, words = OffsetDateTime(2024, 2, 29), "from_rfc3339() takes 1 argument, and 0 were given"

@@ -2,12 +2,22 @@
 #![cfg(feature = "std")]
 
 use core::ops::Sub;
-use std::time::{Instant, SystemTime};
+use std::time::SystemTime;
 
+use crate::ext::SystemTimeExt as _;
 use crate::{OffsetDateTime, SignedDuration, Timestamp, UtcDateTime};
 
 impl Timestamp {
     /// The instant that the clock of the machine shows.
+    ///
+    /// ```
+    /// # #[cfg(feature = "std")] {
+    /// use muxandu::Timestamp;
+    /// use muxandu::macros::timestamp;
+    ///
+    /// assert!(Timestamp::now() > timestamp!(1_700_000_000));
+    /// # }
+    /// ```
     #[must_use]
     #[inline]
     pub fn now() -> Timestamp {
@@ -17,6 +27,14 @@ impl Timestamp {
 
 impl UtcDateTime {
     /// The time of the clock of the machine, in UTC.
+    ///
+    /// ```
+    /// # #[cfg(feature = "std")] {
+    /// use muxandu::UtcDateTime;
+    ///
+    /// assert!(UtcDateTime::now().year() >= 2024);
+    /// # }
+    /// ```
     #[must_use]
     #[inline]
     pub fn now() -> UtcDateTime {
@@ -26,6 +44,15 @@ impl UtcDateTime {
 
 impl OffsetDateTime {
     /// The time of the clock of the machine, at the offset 0.
+    ///
+    /// ```
+    /// # #[cfg(feature = "std")] {
+    /// use muxandu::OffsetDateTime;
+    ///
+    /// let now = OffsetDateTime::now_utc();
+    /// assert!(now.year() >= 2024 && now.offset().is_utc());
+    /// # }
+    /// ```
     #[must_use]
     #[inline]
     pub fn now_utc() -> OffsetDateTime {
@@ -88,18 +115,10 @@ macro_rules! of_system {
 
 of_system! { UtcDateTime OffsetDateTime }
 
-/// The duration from 1970 on to a time of a clock, also to one that no value of the range has.
-fn since_epoch(time: SystemTime) -> SignedDuration {
-    match time.duration_since(SystemTime::UNIX_EPOCH) {
-        Ok(after) => SignedDuration::ZERO + after,
-        Err(before) => SignedDuration::ZERO - before.duration(),
-    }
-}
-
 /// The order of an instant and a time of a clock.
 macro_rules! order {
     ($Type:ident, $at:expr, $time:expr) => {
-        ($at - $Type::UNIX_EPOCH).cmp(&since_epoch($time))
+        ($at - $Type::UNIX_EPOCH).cmp(&$time.signed_duration_since(SystemTime::UNIX_EPOCH))
     };
 }
 
@@ -121,7 +140,7 @@ macro_rules! differences {
                 #[track_caller]
                 #[inline]
                 fn sub(self, earlier: SystemTime) -> SignedDuration {
-                    (self - $Type::UNIX_EPOCH) - since_epoch(earlier)
+                    (self - $Type::UNIX_EPOCH) - earlier.signed_duration_since(SystemTime::UNIX_EPOCH)
                 }
             }
 
@@ -134,7 +153,7 @@ macro_rules! differences {
                 #[track_caller]
                 #[inline]
                 fn sub(self, earlier: $Type) -> SignedDuration {
-                    since_epoch(self) - (earlier - $Type::UNIX_EPOCH)
+                    self.signed_duration_since(SystemTime::UNIX_EPOCH) - (earlier - $Type::UNIX_EPOCH)
                 }
             }
         )+
@@ -142,25 +161,3 @@ macro_rules! differences {
 }
 
 differences! { Timestamp UtcDateTime OffsetDateTime }
-
-/// A time of a clock of the machine, later by a duration of either sign.
-macro_rules! later {
-    ($time:expr, $is_back:expr, $size:expr) => {
-        if $is_back { $time - $size } else { $time + $size }
-    };
-}
-
-sums! {
-    /// # Panics
-    ///
-    /// The clock does not hold the time.
-    SystemTime, SignedDuration: self, duration =>
-        later!(self, duration.is_negative(), duration.unsigned_abs()),
-        later!(self, !duration.is_negative(), duration.unsigned_abs());
-    /// # Panics
-    ///
-    /// The clock does not hold the time.
-    Instant, SignedDuration: self, duration =>
-        later!(self, duration.is_negative(), duration.unsigned_abs()),
-        later!(self, !duration.is_negative(), duration.unsigned_abs());
-}

@@ -4,12 +4,30 @@ use crate::{Date, PlainDateTime, RangeResult, SignedDuration, Time, Weekday};
 
 impl Date {
     /// The day of the week that comes next after this day, if the range has it.
+    ///
+    /// ```
+    /// use muxandu::macros::date;
+    /// use muxandu::{Date, Weekday};
+    ///
+    /// let monday = date!(2023-06-28).checked_next_occurrence(Weekday::Monday);
+    /// assert_eq!(monday, Some(date!(2023-07-03)));
+    /// assert_eq!(Date::MAX.checked_next_occurrence(Weekday::Monday), None);
+    /// ```
     #[must_use]
     pub const fn checked_next_occurrence(self, weekday: Weekday) -> Option<Date> {
         self.checked_add_days(self.weekday().days_to_next(weekday))
     }
 
     /// The day of the week that came last before this day, if the range has it.
+    ///
+    /// ```
+    /// use muxandu::macros::date;
+    /// use muxandu::{Date, Weekday};
+    ///
+    /// let monday = date!(2023-06-28).checked_prev_occurrence(Weekday::Monday);
+    /// assert_eq!(monday, Some(date!(2023-06-26)));
+    /// assert_eq!(Date::MIN.checked_prev_occurrence(Weekday::Monday), None);
+    /// ```
     #[must_use]
     pub const fn checked_prev_occurrence(self, weekday: Weekday) -> Option<Date> {
         self.checked_add_days(-weekday.days_to_next(self.weekday()))
@@ -38,6 +56,13 @@ impl Date {
 
     /// The day of the week that came last before this day.
     ///
+    /// ```
+    /// use muxandu::macros::date;
+    /// use muxandu::Weekday::Monday;
+    ///
+    /// assert_eq!(date!(2023-06-26).prev_occurrence(Monday), date!(2023-06-19));
+    /// ```
+    ///
     /// # Panics
     ///
     /// The range does not have it.
@@ -49,6 +74,13 @@ impl Date {
 
     /// The `n`th day of the week after this day.
     ///
+    /// ```
+    /// use muxandu::macros::date;
+    /// use muxandu::Weekday::Monday;
+    ///
+    /// assert_eq!(date!(2023-06-28).nth_next_occurrence(Monday, 2), date!(2023-07-10));
+    /// ```
+    ///
     /// # Panics
     ///
     /// The range does not have it, or `n` is 0.
@@ -59,6 +91,13 @@ impl Date {
     }
 
     /// The `n`th day of the week before this day.
+    ///
+    /// ```
+    /// use muxandu::macros::date;
+    /// use muxandu::Weekday::Monday;
+    ///
+    /// assert_eq!(date!(2023-06-28).nth_prev_occurrence(Monday, 2), date!(2023-06-19));
+    /// ```
     ///
     /// # Panics
     ///
@@ -79,6 +118,14 @@ impl Date {
     }
 
     /// The day later by the whole days of a duration, or the end of the range that it is beyond.
+    ///
+    /// ```
+    /// use muxandu::ext::NumericalDuration as _;
+    /// use muxandu::Date;
+    ///
+    /// assert_eq!(Date::MIN.saturating_add(36.hours()), Date::MIN.next_day().unwrap());
+    /// assert_eq!(Date::MAX.saturating_add(1.days()), Date::MAX);
+    /// ```
     #[must_use]
     #[inline]
     pub const fn saturating_add(self, duration: SignedDuration) -> Date {
@@ -90,6 +137,14 @@ impl Date {
     }
 
     /// The day earlier by the whole days of a duration, or the end of the range that it is beyond.
+    ///
+    /// ```
+    /// use muxandu::ext::NumericalDuration as _;
+    /// use muxandu::Date;
+    ///
+    /// assert_eq!(Date::MAX.saturating_sub(36.hours()), Date::MAX.previous_day().unwrap());
+    /// assert_eq!(Date::MIN.saturating_sub(1.days()), Date::MIN);
+    /// ```
     #[must_use]
     #[inline]
     pub const fn saturating_sub(self, duration: SignedDuration) -> Date {
@@ -101,6 +156,12 @@ impl Date {
     }
 
     /// The day at 0:00.
+    ///
+    /// ```
+    /// use muxandu::macros::{date, datetime};
+    ///
+    /// assert_eq!(date!(2024-02-29).midnight(), datetime!(2024-02-29 0:00));
+    /// ```
     #[must_use]
     #[inline]
     pub const fn midnight(self) -> PlainDateTime {
@@ -108,6 +169,12 @@ impl Date {
     }
 
     /// The day at a time of day.
+    ///
+    /// ```
+    /// use muxandu::macros::{date, datetime, time};
+    ///
+    /// assert_eq!(date!(2024-02-29).with_time(time!(1:02)), datetime!(2024-02-29 1:02));
+    /// ```
     #[must_use]
     #[inline]
     pub const fn with_time(self, time: Time) -> PlainDateTime {
@@ -146,11 +213,25 @@ macro_rules! with_parts {
 with_parts! {
     /// The day at an hour, a minute and a second.
     ///
+    /// ```
+    /// use muxandu::macros::{date, datetime};
+    ///
+    /// assert_eq!(date!(2024-02-29).with_hms(1, 2, 3), Ok(datetime!(2024-02-29 1:02:03)));
+    /// assert_eq!(date!(2024-02-29).with_hms(24, 0, 0).unwrap_err().name(), "hour");
+    /// ```
+    ///
     /// # Errors
     ///
     /// `hour`, `minute` or `second`.
     with_hms: from_hms(hour: u8, minute: u8, second: u8);
     /// The day at an hour, a minute, a second and a millisecond of it.
+    ///
+    /// ```
+    /// use muxandu::macros::{date, datetime};
+    ///
+    /// let at = date!(2024-02-29).with_hms_milli(1, 2, 3, 4);
+    /// assert_eq!(at, Ok(datetime!(2024-02-29 1:02:03.004)));
+    /// ```
     ///
     /// # Errors
     ///
@@ -158,11 +239,25 @@ with_parts! {
     with_hms_milli: from_hms_milli(hour: u8, minute: u8, second: u8, millisecond: u16);
     /// The day at an hour, a minute, a second and a microsecond of it.
     ///
+    /// ```
+    /// use muxandu::macros::{date, datetime};
+    ///
+    /// let at = date!(2024-02-29).with_hms_micro(1, 2, 3, 4);
+    /// assert_eq!(at, Ok(datetime!(2024-02-29 1:02:03.000_004)));
+    /// ```
+    ///
     /// # Errors
     ///
     /// `hour`, `minute`, `second` or `microsecond`.
     with_hms_micro: from_hms_micro(hour: u8, minute: u8, second: u8, microsecond: u32);
     /// The day at an hour, a minute, a second and a nanosecond of it.
+    ///
+    /// ```
+    /// use muxandu::macros::{date, datetime};
+    ///
+    /// let at = date!(2024-02-29).with_hms_nano(1, 2, 3, 4);
+    /// assert_eq!(at, Ok(datetime!(2024-02-29 1:02:03.000_000_004)));
+    /// ```
     ///
     /// # Errors
     ///

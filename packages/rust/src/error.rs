@@ -327,7 +327,7 @@ impl fmt::Display for InvalidFormatDescription {
 
 impl core::error::Error for InvalidFormatDescription {}
 
-/// The offset of the machine's clock, which no call of this crate finds.
+/// The offset of the machine's clock is not known: its zone is not found, or not read.
 #[cfg(feature = "local-offset")]
 #[derive(Clone, Copy, Debug, PartialEq, Eq, Hash)]
 pub struct IndeterminateOffset;

@@ -5,6 +5,9 @@ use core::time::Duration;
 use crate::signed_duration::TOO_LONG;
 use crate::{SignedDuration, fractional};
 
+#[cfg(feature = "std")]
+pub use crate::instant::{InstantExt, SystemTimeExt};
+
 mod sealed {
     pub trait Sealed {}
 

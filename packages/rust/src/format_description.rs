@@ -16,13 +16,15 @@
 mod component;
 mod items;
 pub mod modifier;
+mod strftime;
 mod text;
 pub mod well_known;
 
 pub use component::Component;
 pub use items::{BorrowedFormatItem, OwnedFormatItem};
+pub use strftime::{parse_strftime_borrowed, parse_strftime_owned};
 #[doc(hidden)]
-pub use text::{constant, front};
+pub use text::Laid;
 pub use text::{parse, parse_borrowed, parse_owned};
 
 /// The older name of [`BorrowedFormatItem`].

@@ -7,7 +7,8 @@ use core::ops::Deref;
 use std::io;
 
 use crate::error::Format;
-use crate::format_description::well_known::{Rfc2822, Rfc3339};
+use crate::format_description::well_known::iso8601::{EncodedConfig, form_of};
+use crate::format_description::well_known::{Iso8601, Rfc2822, Rfc3339};
 use crate::format_description::{BorrowedFormatItem, Component, OwnedFormatItem};
 use crate::formatting::sealed::Put;
 use crate::proved::format_descriptions::{self as proved, Item};
@@ -23,6 +24,7 @@ impl Formattable for OwnedFormatItem {}
 impl Formattable for [OwnedFormatItem] {}
 impl Formattable for Rfc3339 {}
 impl Formattable for Rfc2822 {}
+impl<const CONFIG: EncodedConfig> Formattable for Iso8601<CONFIG> {}
 impl<T: Deref<Target: Formattable>> Formattable for T {}
 
 /// The date, the time of day and the offset that a value has.
@@ -191,6 +193,40 @@ mod sealed {
             RFC_2822.put_value(value, put)
         }
     }
+
+    impl<const CONFIG: EncodedConfig> Sealed for Iso8601<CONFIG> {
+        #[track_caller]
+        fn put_value(&self, value: Value, put: &mut impl Put) -> Result<usize, Format> {
+            let form = const { form_of(CONFIG) };
+            let is_lacking = form.date.is_some() && value.date.is_none()
+                || form.time.is_some() && value.time.is_none()
+                || form.offset.is_some() && value.offset.is_none();
+            if is_lacking {
+                return Err(Format::InsufficientTypeInformation);
+            }
+            let is_written = form.date.is_some() || form.time.is_some() || form.offset.is_some();
+            assert!(is_written, "`Iso8601` must have parts to write: `PARSING` reads alone");
+            let date = value.date.unwrap_or(Date::UNIX_EPOCH);
+            let time = value.time.unwrap_or(Time::MIDNIGHT);
+            let offset = value.offset.unwrap_or(UtcOffset::UTC);
+            let at = PlainDateTime::new(date, time).assume_offset(offset);
+            match proved::format_iso8601(form, at) {
+                Some(text) => put_all(put, text.as_bytes()),
+                None => Err(Format::InvalidComponent(part_without_text(form, at))),
+            }
+        }
+    }
+}
+
+/// The first part that has no text in a form of ISO 8601.
+fn part_without_text(form: proved::Iso8601, at: OffsetDateTime) -> &'static str {
+    if proved::format_iso8601(proved::Iso8601 { offset: None, ..form }, at).is_none() {
+        "year"
+    } else if at.offset().seconds_past_minute() != 0 {
+        "offset_second"
+    } else {
+        "offset_minute"
+    }
 }
 
 /// How RFC 2822 writes.
@@ -217,11 +253,19 @@ fn write_to(
 }
 
 macro_rules! formatted {
-    ($($Type:ident($value:ident): $parts:expr;)+) => {
+    ($($Type:ident($value:ident), $macro:literal($literal:literal), $description:literal, $text:literal: $parts:expr;)+) => {
         $(
             impl $Type {
                 /// The text by a description, or by a format of
                 /// [`well_known`](crate::format_description::well_known).
+                ///
+                /// ```
+                #[doc = concat!("use muxandu::macros::{", $macro, ", format_description};")]
+                ///
+                #[doc = concat!("let format = format_description!(\"", $description, "\");")]
+                #[doc = concat!("assert_eq!(", $macro, "!(", $literal, ").format(format)?, \"", $text, "\");")]
+                /// # Ok::<(), muxandu::Error>(())
+                /// ```
                 ///
                 /// # Errors
                 ///
@@ -232,6 +276,18 @@ macro_rules! formatted {
                 }
 
                 /// Writes the text by a description, and returns the count of its bytes.
+                ///
+                /// ```
+                /// # #[cfg(feature = "std")] {
+                #[doc = concat!("use muxandu::macros::{", $macro, ", format_description};")]
+                ///
+                /// let mut output = Vec::new();
+                #[doc = concat!("let format = format_description!(\"", $description, "\");")]
+                #[doc = concat!("let count = ", $macro, "!(", $literal, ").format_into(&mut output, format)?;")]
+                #[doc = concat!("assert_eq!((count, &output[..]), (output.len(), &b\"", $text, "\"[..]));")]
+                /// # }
+                /// # Ok::<(), muxandu::Error>(())
+                /// ```
                 ///
                 /// # Errors
                 ///
@@ -251,11 +307,18 @@ macro_rules! formatted {
 }
 
 formatted! {
-    Date(date): Value { date: Some(date), time: None, offset: None };
-    Time(time): Value { date: None, time: Some(time), offset: None };
-    UtcOffset(offset): Value { date: None, time: None, offset: Some(offset) };
-    PlainDateTime(at): Value { date: Some(at.date()), time: Some(at.time()), offset: None };
-    UtcDateTime(at): Value { date: Some(at.date()), time: Some(at.time()), offset: Some(UtcOffset::UTC) };
-    OffsetDateTime(at): Value { date: Some(at.date()), time: Some(at.time()), offset: Some(at.offset()) };
-    Timestamp(at): Value { date: Some(at.date()), time: Some(at.time()), offset: Some(UtcOffset::UTC) };
+    Date(date), "date"("2024-02-29"), "[day].[month].[year]", "29.02.2024":
+        Value { date: Some(date), time: None, offset: None };
+    Time(time), "time"("12:34"), "[hour]h[minute]", "12h34":
+        Value { date: None, time: Some(time), offset: None };
+    UtcOffset(offset), "offset"("-5"), "GMT[offset_hour sign:mandatory]", "GMT-05":
+        Value { date: None, time: None, offset: Some(offset) };
+    PlainDateTime(at), "datetime"("2024-02-29 12:34"), "[day].[month]. [hour]:[minute]", "29.02. 12:34":
+        Value { date: Some(at.date()), time: Some(at.time()), offset: None };
+    UtcDateTime(at), "utc_datetime"("2024-02-29 12:34"), "[year][ordinal]T[hour][minute]Z", "2024060T1234Z":
+        Value { date: Some(at.date()), time: Some(at.time()), offset: Some(UtcOffset::UTC) };
+    OffsetDateTime(at), "datetime"("2024-02-29 12:34 -5"), "[hour]:[minute] [offset_hour]", "12:34 -05":
+        Value { date: Some(at.date()), time: Some(at.time()), offset: Some(at.offset()) };
+    Timestamp(at), "timestamp"("1_709_210_040"), "[year]-[month]-[day] [hour]:[minute]", "2024-02-29 12:34":
+        Value { date: Some(at.date()), time: Some(at.time()), offset: Some(UtcOffset::UTC) };
 }

@@ -38,6 +38,8 @@ extern crate std;
 #[macro_use]
 mod operators;
 
+#[cfg(feature = "chrono")]
+mod chrono;
 mod clocks;
 mod date;
 mod defaults;
@@ -46,6 +48,7 @@ pub mod ext;
 pub mod format_description;
 pub mod formatting;
 mod fractional;
+mod instant;
 #[doc(hidden)]
 pub mod literal;
 #[cfg(feature = "local-offset")]
@@ -62,7 +65,6 @@ mod quickcheck;
 #[cfg(feature = "rand")]
 mod rand;
 mod refusal;
-mod rfc2822;
 mod rfc3339;
 #[cfg(feature = "serde")]
 pub mod serde;
@@ -73,9 +75,12 @@ mod time;
 mod unit;
 mod utc_offset;
 pub mod util;
+pub mod zones;
 
 #[doc(inline)]
 pub use error::Error;
+#[cfg(feature = "std")]
+pub use instant::Instant;
 #[doc(inline)]
 pub use proved::local_texts;
 #[doc(inline)]

@@ -122,7 +122,18 @@ macro_rules! __literal {
 
 /// A format description, which is read at compile time:
 /// `format_description!("[year]-[month]-[day]")`, and with `version = 2` before the text,
-/// `format_description!(version = 2, r"\[[year]\]")`.
+/// `format_description!(version = 2, r"\[[year]\]")`. It may have items that a text may lack,
+/// `[optional [..]]`, and alternatives, `[first [..] [..]]`:
+///
+/// ```
+/// use muxandu::Time;
+/// use muxandu::macros::{format_description, time};
+///
+/// let clock = format_description!("[hour]:[minute][optional [:[second]]]");
+/// assert_eq!(Time::parse("12:34", clock)?, time!(12:34));
+/// assert_eq!(Time::parse("12:34:56", clock)?, time!(12:34:56));
+/// # Ok::<(), muxandu::Error>(())
+/// ```
 ///
 /// A text that is no description does not compile:
 ///
@@ -136,13 +147,12 @@ macro_rules! format_description {
     };
     (version = $version:expr, $text:expr $(,)?) => {{
         const TEXT: &::core::primitive::str = $text;
-        const READ: (
-            [$crate::format_description::BorrowedFormatItem<'static>; TEXT.len()],
-            ::core::primitive::usize,
-        ) = $crate::format_description::constant($version, TEXT);
-        const ITEMS: [$crate::format_description::BorrowedFormatItem<'static>; READ.1] =
-            $crate::format_description::front(READ.0);
-        const DESCRIPTION: $crate::format_description::StaticFormatDescription = &ITEMS;
+        const LAID: $crate::format_description::Laid<{ TEXT.len() }> =
+            $crate::format_description::Laid::new($version, TEXT);
+        static ITEMS: [$crate::format_description::BorrowedFormatItem<'static>; LAID.count()] =
+            LAID.items(&ITEMS);
+        const DESCRIPTION: $crate::format_description::StaticFormatDescription =
+            LAID.description(&ITEMS);
         DESCRIPTION
     }};
 }

@@ -49,6 +49,12 @@ impl Month {
     }
 
     /// How many days the month has in a year.
+    ///
+    /// ```
+    /// use muxandu::Month;
+    ///
+    /// assert_eq!((Month::February.length(2023), Month::February.length(2024)), (28, 29));
+    /// ```
     #[must_use]
     #[inline]
     pub fn length(self, year: i32) -> u8 {
@@ -68,6 +74,12 @@ impl Weekday {
     }
 
     /// 1 for Monday to 7 for Sunday.
+    ///
+    /// ```
+    /// use muxandu::Weekday;
+    ///
+    /// assert_eq!(Weekday::Sunday.number_from_monday(), 7);
+    /// ```
     #[must_use]
     #[inline]
     pub const fn number_from_monday(self) -> u8 {
@@ -75,6 +87,12 @@ impl Weekday {
     }
 
     /// 1 for Sunday to 7 for Saturday.
+    ///
+    /// ```
+    /// use muxandu::Weekday;
+    ///
+    /// assert_eq!(Weekday::Saturday.number_from_sunday(), 7);
+    /// ```
     #[must_use]
     #[inline]
     pub const fn number_from_sunday(self) -> u8 {
@@ -82,6 +100,12 @@ impl Weekday {
     }
 
     /// 0 for Sunday to 6 for Saturday.
+    ///
+    /// ```
+    /// use muxandu::Weekday;
+    ///
+    /// assert_eq!(Weekday::Saturday.number_days_from_sunday(), 6);
+    /// ```
     #[must_use]
     #[inline]
     pub const fn number_days_from_sunday(self) -> u8 {
@@ -119,6 +143,13 @@ macro_rules! named_values {
 
             impl $Type {
                 /// The one before, the last before the first.
+                ///
+                /// ```
+                /// use muxandu::{Month, Weekday};
+                ///
+                /// assert_eq!(Month::January.previous(), Month::December);
+                /// assert_eq!(Weekday::Monday.previous(), Weekday::Sunday);
+                /// ```
                 #[must_use]
                 #[inline]
                 pub const fn previous(self) -> $Type {
@@ -126,6 +157,13 @@ macro_rules! named_values {
                 }
 
                 /// The one after, the first after the last.
+                ///
+                /// ```
+                /// use muxandu::{Month, Weekday};
+                ///
+                /// assert_eq!(Month::December.next(), Month::January);
+                /// assert_eq!(Weekday::Sunday.next(), Weekday::Monday);
+                /// ```
                 #[must_use]
                 #[inline]
                 pub const fn next(self) -> $Type {
@@ -133,6 +171,13 @@ macro_rules! named_values {
                 }
 
                 /// The one a number of places later.
+                ///
+                /// ```
+                /// use muxandu::{Month, Weekday};
+                ///
+                /// assert_eq!(Month::November.nth_next(15), Month::February);
+                /// assert_eq!(Weekday::Saturday.nth_next(9), Weekday::Monday);
+                /// ```
                 #[must_use]
                 #[inline]
                 pub const fn nth_next(self, n: u8) -> $Type {
@@ -140,6 +185,13 @@ macro_rules! named_values {
                 }
 
                 /// The one a number of places earlier.
+                ///
+                /// ```
+                /// use muxandu::{Month, Weekday};
+                ///
+                /// assert_eq!(Month::February.nth_prev(15), Month::November);
+                /// assert_eq!(Weekday::Monday.nth_prev(9), Weekday::Saturday);
+                /// ```
                 #[must_use]
                 #[inline]
                 pub const fn nth_prev(self, n: u8) -> $Type {

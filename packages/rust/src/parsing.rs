@@ -5,10 +5,14 @@ use core::num::{NonZeroU8, NonZeroU16};
 use core::ops::Deref;
 
 use crate::error::{ComponentRange, Parse, ParseFromDescription, TryFromParsed};
-use crate::format_description::well_known::{Rfc2822, Rfc3339};
+use crate::format_description::well_known::iso8601::EncodedConfig;
+use crate::format_description::well_known::{Iso8601, Rfc2822, Rfc3339};
 use crate::format_description::{BorrowedFormatItem, Component, OwnedFormatItem};
 use crate::proved::Part;
-use crate::proved::format_descriptions::{Field, Parts, ValueRefusal};
+use crate::proved::format_descriptions::{
+    Field, MailRefusal, Parts, ValueRefusal, parse_iso8601, parse_iso8601_date, parse_iso8601_time,
+    parse_rfc2822_front_into,
+};
 use crate::{
     Date, Month, OffsetDateTime, PlainDateTime, Time, Timestamp, UtcDateTime, UtcOffset, Weekday,
 };
@@ -67,12 +71,28 @@ impl Parsed {
     }
 
     /// No part is known.
+    ///
+    /// ```
+    /// use muxandu::parsing::Parsed;
+    ///
+    /// assert_eq!(Parsed::new().year(), None);
+    /// ```
     #[must_use]
     pub const fn new() -> Parsed {
         Parsed { parts: Parts::none() }
     }
 
     /// Reads a component at the front of a text, and returns what follows it.
+    ///
+    /// ```
+    /// use muxandu::format_description::{Component, modifier};
+    /// use muxandu::parsing::Parsed;
+    ///
+    /// let mut parsed = Parsed::new();
+    /// let rest = parsed.parse_component(b"29.02.", Component::Day(modifier::Day::default()))?;
+    /// assert_eq!((rest, parsed.day().map(|day| day.get())), (b".02.".as_slice(), Some(29)));
+    /// # Ok::<(), muxandu::error::ParseFromDescription>(())
+    /// ```
     ///
     /// # Errors
     ///
@@ -86,6 +106,13 @@ impl Parsed {
     }
 
     /// Returns the bytes after these.
+    ///
+    /// ```
+    /// use muxandu::parsing::Parsed;
+    ///
+    /// assert_eq!(Parsed::parse_literal(b"T12:34", b"T")?, b"12:34");
+    /// # Ok::<(), muxandu::error::ParseFromDescription>(())
+    /// ```
     ///
     /// # Errors
     ///
@@ -186,6 +213,16 @@ fn read_all<'a>(
 impl Parsed {
     /// Reads an item at the front of a text, and returns what follows it. An error changes nothing.
     ///
+    /// ```
+    /// use muxandu::macros::format_description;
+    /// use muxandu::parsing::Parsed;
+    ///
+    /// let mut parsed = Parsed::new();
+    /// let rest = parsed.parse_item(b"12:34", &format_description!("[hour]:[minute]")[0])?;
+    /// assert_eq!((rest, parsed.hour_24()), (b":34".as_slice(), Some(12)));
+    /// # Ok::<(), muxandu::error::ParseFromDescription>(())
+    /// ```
+    ///
     /// # Errors
     ///
     /// The text does not begin so, or contradicts a known part.
@@ -199,6 +236,16 @@ impl Parsed {
 
     /// Reads items at the front of a text, and returns what follows them. An error changes nothing.
     ///
+    /// ```
+    /// use muxandu::macros::format_description;
+    /// use muxandu::parsing::Parsed;
+    ///
+    /// let mut parsed = Parsed::new();
+    /// let rest = parsed.parse_items(b"12:34 Uhr", format_description!("[hour]:[minute]"))?;
+    /// assert_eq!((rest, parsed.minute()), (b" Uhr".as_slice(), Some(34)));
+    /// # Ok::<(), muxandu::error::ParseFromDescription>(())
+    /// ```
+    ///
     /// # Errors
     ///
     /// As [`Parsed::parse_item`].
@@ -211,12 +258,29 @@ impl Parsed {
     }
 }
 
+/// The example of the three functions of a part, for a value of it.
+macro_rules! example {
+    ($name:ident $set_name:ident $with_name:ident: $value:expr) => {
+        concat!(
+            "```\n#[allow(unused_imports)]\nuse core::num::NonZero;\n",
+            "#[allow(unused_imports)]\nuse muxandu::{Month, Weekday};\nuse muxandu::parsing::Parsed;\n\n",
+            "let value = ", stringify!($value), ";\n",
+            "let mut parsed = Parsed::new();\nassert_eq!(parsed.", stringify!($set_name), "(value), Some(()));\n",
+            "assert_eq!(parsed.", stringify!($name), "(), Some(value));\n",
+            "let made = Parsed::new().", stringify!($with_name), "(value).unwrap();\n",
+            "assert_eq!(made.", stringify!($name), "(), Some(value));\n```\n",
+        )
+    };
+}
+
 macro_rules! parts {
-    ($($name:ident $set_name:ident $with_name:ident: $Type:ty, $part:ident;
+    ($($name:ident $set_name:ident $with_name:ident: $Type:ty, $part:ident, $example:expr;
         $number:ident => $known:expr; $value:ident => $set:expr;)+) => {
         impl Parsed {
             $(
                 /// This part, if it is known.
+                ///
+                #[doc = example!($name $set_name $with_name: $example)]
                 #[must_use]
                 pub const fn $name(&self) -> Option<$Type> {
                     match self.parts.$part {
@@ -226,12 +290,16 @@ macro_rules! parts {
                 }
 
                 /// Sets this part.
+                ///
+                #[doc = example!($name $set_name $with_name: $example)]
                 pub const fn $set_name(&mut self, $value: $Type) -> Option<()> {
                     self.parts.$part = Some($set);
                     Some(())
                 }
 
                 /// The same with this part.
+                ///
+                #[doc = example!($name $set_name $with_name: $example)]
                 #[must_use]
                 pub const fn $with_name(mut self, value: $Type) -> Option<Parsed> {
                     let _ = self.$set_name(value);
@@ -243,32 +311,32 @@ macro_rules! parts {
 }
 
 macro_rules! numbers {
-    ($($name:ident $set_name:ident $with_name:ident: $Type:ty, $part:ident: $Part:ty;)+) => {
+    ($($name:ident $set_name:ident $with_name:ident: $Type:ty, $part:ident: $Part:ty, $example:expr;)+) => {
         parts! {
-            $($name $set_name $with_name: $Type, $part; number => Some(number as $Type); value => value as $Part;)+
+            $($name $set_name $with_name: $Type, $part, $example; number => Some(number as $Type); value => value as $Part;)+
         }
     };
 }
 
 numbers! {
-    year set_year with_year: i32, year: i32;
-    year_last_two set_year_last_two with_year_last_two: u8, year_last_two: u32;
-    iso_year set_iso_year with_iso_year: i32, iso_year: i32;
-    iso_year_last_two set_iso_year_last_two with_iso_year_last_two: u8, iso_year_last_two: u32;
-    sunday_week_number set_sunday_week_number with_sunday_week_number: u8, sunday_week: u32;
-    monday_week_number set_monday_week_number with_monday_week_number: u8, monday_week: u32;
-    hour_24 set_hour_24 with_hour_24: u8, hour: u32;
-    hour_12_is_pm set_hour_12_is_pm with_hour_12_is_pm: bool, is_afternoon: bool;
-    minute set_minute with_minute: u8, minute: u32;
-    second set_second with_second: u8, second: u32;
-    subsecond set_subsecond with_subsecond: u32, nanosecond: u32;
-    unix_timestamp_nanos set_unix_timestamp_nanos with_unix_timestamp_nanos: i128, unix_nanosecond: i128;
+    year set_year with_year: i32, year: i32, 2024;
+    year_last_two set_year_last_two with_year_last_two: u8, year_last_two: u32, 24;
+    iso_year set_iso_year with_iso_year: i32, iso_year: i32, 2024;
+    iso_year_last_two set_iso_year_last_two with_iso_year_last_two: u8, iso_year_last_two: u32, 24;
+    sunday_week_number set_sunday_week_number with_sunday_week_number: u8, sunday_week: u32, 9;
+    monday_week_number set_monday_week_number with_monday_week_number: u8, monday_week: u32, 9;
+    hour_24 set_hour_24 with_hour_24: u8, hour: u32, 23;
+    hour_12_is_pm set_hour_12_is_pm with_hour_12_is_pm: bool, is_afternoon: bool, true;
+    minute set_minute with_minute: u8, minute: u32, 59;
+    second set_second with_second: u8, second: u32, 59;
+    subsecond set_subsecond with_subsecond: u32, nanosecond: u32, 500_000_000;
+    unix_timestamp_nanos set_unix_timestamp_nanos with_unix_timestamp_nanos: i128, unix_nanosecond: i128, 1_709_210_040_000_000_000;
 }
 
 macro_rules! not_zero {
     ($($name:ident $set_name:ident $with_name:ident: $Type:ty, $Number:ty, $part:ident;)+) => {
         parts! {
-            $($name $set_name $with_name: $Type, $part;
+            $($name $set_name $with_name: $Type, $part, NonZero::new(9).unwrap();
                 number => <$Type>::new(number as $Number); value => value.get() as u32;)+
         }
     };
@@ -282,13 +350,13 @@ not_zero! {
 }
 
 parts! {
-    month set_month with_month: Month, month;
+    month set_month with_month: Month, month, Month::May;
         number => match Month::from_number(if number > 12 { 0 } else { number as u8 }) {
             Ok(month) => Some(month),
             Err(_) => None,
         };
         month => month as u32;
-    weekday set_weekday with_weekday: Weekday, weekday;
+    weekday set_weekday with_weekday: Weekday, weekday, Weekday::Friday;
         number => if number > 255 { None } else { Some(Weekday::Monday.nth_next(number as u8)) };
         weekday => weekday.number_days_from_monday() as u32;
 }
@@ -299,6 +367,8 @@ macro_rules! offset_parts {
         impl Parsed {
             $(
                 /// This part of the offset with its sign, if it is known.
+                ///
+                #[doc = example!($name $set_name $with_name: -5)]
                 #[must_use]
                 pub const fn $name(&self) -> Option<i8> {
                     match self.parts.$part {
@@ -310,6 +380,8 @@ macro_rules! offset_parts {
 
                 /// Sets this part of the offset. All parts have the sign of the greatest that is
                 /// not 0.
+                ///
+                #[doc = example!($name $set_name $with_name: -5)]
                 pub const fn $set_name(&mut self, value: i8) -> Option<()> {
                     let has_sign = value != 0 $(&& !matches!(self.parts.$greater, Some(1..)))*;
                     if has_sign || self.parts.is_west.is_none() {
@@ -320,6 +392,8 @@ macro_rules! offset_parts {
                 }
 
                 /// The same with this part of the offset.
+                ///
+                #[doc = example!($name $set_name $with_name: -5)]
                 #[must_use]
                 pub const fn $with_name(mut self, value: i8) -> Option<Parsed> {
                     let _ = self.$set_name(value);
@@ -336,52 +410,84 @@ offset_parts! {
     offset_second_signed set_offset_second_signed with_offset_second_signed: offset_second, [offset_hour offset_minute];
 }
 
-/// The older names of parts of an offset, without their sign.
-impl Parsed {
-    /// The minutes of the offset, if they are known.
-    #[deprecated(note = "use `offset_minute_signed`")]
-    #[must_use]
-    pub const fn offset_minute(&self) -> Option<u8> {
-        match self.offset_minute_signed() {
-            Some(minute) => Some(minute.unsigned_abs()),
-            None => None,
+/// The older names of parts of an offset, without their sign: what each is called, the names, and
+/// those of the part with its sign.
+macro_rules! older_names {
+    ($($what:literal: $name:ident $set_name:ident $with_name:ident = $signed:ident $set_signed:ident $with_signed:ident;)+) => {
+        impl Parsed {
+            $(
+                #[doc = concat!("The ", $what, " of the offset, if they are known.\n\n")]
+                #[doc = older_example!($name $set_name $with_name)]
+                #[deprecated(note = "use the part with its sign")]
+                #[must_use]
+                pub const fn $name(&self) -> Option<u8> {
+                    match self.$signed() {
+                        Some(number) => Some(number.unsigned_abs()),
+                        None => None,
+                    }
+                }
+
+                #[doc = concat!("Sets the ", $what, " of the offset.\n\n")]
+                #[doc = older_example!($name $set_name $with_name)]
+                #[deprecated(note = "use the part with its sign")]
+                pub const fn $set_name(&mut self, value: u8) -> Option<()> {
+                    if value > i8::MAX as u8 { None } else { self.$set_signed(value as i8) }
+                }
+
+                #[doc = concat!("The same with these ", $what, " of the offset.\n\n")]
+                #[doc = older_example!($name $set_name $with_name)]
+                #[deprecated(note = "use the part with its sign")]
+                #[must_use]
+                pub const fn $with_name(self, value: u8) -> Option<Parsed> {
+                    if value > i8::MAX as u8 { None } else { self.$with_signed(value as i8) }
+                }
+            )+
         }
-    }
+    };
+}
 
-    /// The seconds of the offset, if they are known.
-    #[deprecated(note = "use `offset_second_signed`")]
-    #[must_use]
-    pub const fn offset_second(&self) -> Option<u8> {
-        match self.offset_second_signed() {
-            Some(second) => Some(second.unsigned_abs()),
-            None => None,
-        }
-    }
+/// The example of the three functions.
+macro_rules! older_example {
+    ($name:ident $set_name:ident $with_name:ident) => {
+        concat!(
+            "```\n# #![allow(deprecated)]\nuse muxandu::parsing::Parsed;\n\n",
+            "let mut parsed = Parsed::new();\n",
+            "assert_eq!((parsed.",
+            stringify!($set_name),
+            "(30), parsed.",
+            stringify!($set_name),
+            "(200)), (Some(()), None));\n",
+            "assert_eq!(parsed.",
+            stringify!($name),
+            "(), Some(30));\n",
+            "assert!(Parsed::new().",
+            stringify!($with_name),
+            "(30).is_some());\n```\n",
+        )
+    };
+}
 
-    /// Sets the minutes of the offset.
-    #[deprecated(note = "use `set_offset_minute_signed`")]
-    pub const fn set_offset_minute(&mut self, value: u8) -> Option<()> {
-        if value > i8::MAX as u8 { None } else { self.set_offset_minute_signed(value as i8) }
-    }
+older_names! {
+    "minutes": offset_minute set_offset_minute with_offset_minute
+        = offset_minute_signed set_offset_minute_signed with_offset_minute_signed;
+    "seconds": offset_second set_offset_second with_offset_second
+        = offset_second_signed set_offset_second_signed with_offset_second_signed;
+}
 
-    /// Sets the seconds of the offset.
-    #[deprecated(note = "use `set_offset_second_signed`")]
-    pub const fn set_offset_second(&mut self, value: u8) -> Option<()> {
-        if value > i8::MAX as u8 { None } else { self.set_offset_second_signed(value as i8) }
-    }
-
-    /// The same with these minutes of the offset.
-    #[deprecated(note = "use `with_offset_minute_signed`")]
-    #[must_use]
-    pub const fn with_offset_minute(self, value: u8) -> Option<Parsed> {
-        if value > i8::MAX as u8 { None } else { self.with_offset_minute_signed(value as i8) }
-    }
-
-    /// The same with these seconds of the offset.
-    #[deprecated(note = "use `with_offset_second_signed`")]
-    #[must_use]
-    pub const fn with_offset_second(self, value: u8) -> Option<Parsed> {
-        if value > i8::MAX as u8 { None } else { self.with_offset_second_signed(value as i8) }
+impl From<MailRefusal> for ParseFromDescription {
+    fn from(refusal: MailRefusal) -> ParseFromDescription {
+        ParseFromDescription::InvalidComponent(match refusal.part {
+            None => return ParseFromDescription::InvalidLiteral,
+            Some(Field::Weekday) => "weekday",
+            Some(Field::Day) => "day",
+            Some(Field::Month) => "month",
+            Some(Field::Hour) => "hour",
+            Some(Field::Minute) => "minute",
+            Some(Field::Second) => "second",
+            Some(Field::OffsetHour) => "offset hour",
+            Some(Field::OffsetMinute) => "offset minute",
+            Some(_) => "year",
+        })
     }
 }
 
@@ -499,6 +605,7 @@ impl Parsable for OwnedFormatItem {}
 impl Parsable for [OwnedFormatItem] {}
 impl Parsable for Rfc3339 {}
 impl Parsable for Rfc2822 {}
+impl<const CONFIG: EncodedConfig> Parsable for Iso8601<CONFIG> {}
 impl<T: Deref<Target: Parsable>> Parsable for T {}
 
 mod sealed {
@@ -575,13 +682,25 @@ mod sealed {
 
     impl Sealed for Rfc2822 {
         fn parse_into<'a>(&self, input: &'a [u8], parsed: &mut Parsed) -> Result<&'a [u8], Parse> {
-            let rest = crate::rfc2822::read(input, parsed)?;
+            let rest = parse_rfc2822_front_into(input, &mut parsed.parts)
+                .map_err(ParseFromDescription::from)?;
             if parsed.parts.second == Some(60) {
                 if let Ok((at, _)) = parsed.parts.leap_date_time() {
                     parsed.set_date_time(at);
                 }
             }
             Ok(rest)
+        }
+    }
+
+    impl<const CONFIG: EncodedConfig> Sealed for Iso8601<CONFIG> {
+        fn parse_into<'a>(&self, input: &'a [u8], parsed: &mut Parsed) -> Result<&'a [u8], Parse> {
+            let clock = input.strip_prefix(b"T").unwrap_or(input);
+            parsed.parts = parse_iso8601(input)
+                .or_else(|_| parse_iso8601_date(input))
+                .or_else(|_| parse_iso8601_time(clock))
+                .map_err(|_| ParseFromDescription::InvalidLiteral)?;
+            Ok(&[])
         }
     }
 }
@@ -626,11 +745,22 @@ fn parse_as<T: OfParts>(
 }
 
 macro_rules! parsed {
-    ($($Type:ident: $read:path,)+) => {
+    ($($Type:ident: $read:path, $macro:literal($literal:literal), $description:literal, $text:literal,
+        $set:literal, $others:literal, $rest:literal;)+) => {
         $(
             impl $Type {
                 /// Reads a text by a description, or by a format of
                 /// [`well_known`](crate::format_description::well_known).
+                ///
+                /// ```
+                #[doc = concat!("use muxandu::", stringify!($Type), ";")]
+                #[doc = concat!("use muxandu::macros::{", $macro, ", format_description};")]
+                ///
+                #[doc = concat!("let format = format_description!(\"", $description, "\");")]
+                #[doc = concat!("let read = ", stringify!($Type), "::parse(\"", $text, "\", format)?;")]
+                #[doc = concat!("assert_eq!(read, ", $macro, "!(", $literal, "));")]
+                /// # Ok::<(), muxandu::Error>(())
+                /// ```
                 ///
                 /// # Errors
                 ///
@@ -642,6 +772,18 @@ macro_rules! parsed {
 
                 /// Reads a text by a description. The defaults fill the parts that it does not
                 /// have.
+                ///
+                /// ```
+                #[doc = concat!("use muxandu::", stringify!($Type), ";")]
+                #[doc = concat!("use muxandu::macros::{", $macro, ", format_description};")]
+                /// use muxandu::parsing::Parsed;
+                ///
+                #[doc = concat!("let defaults = Parsed::new().", $set, ".unwrap();")]
+                #[doc = concat!("let format = format_description!(\"", $others, "\");")]
+                #[doc = concat!("let read = ", stringify!($Type), "::parse_with_defaults(b\"", $rest, "\", format, defaults)?;")]
+                #[doc = concat!("assert_eq!(read, ", $macro, "!(", $literal, "));")]
+                /// # Ok::<(), muxandu::Error>(())
+                /// ```
                 ///
                 /// # Errors
                 ///
@@ -661,6 +803,18 @@ macro_rules! parsed {
 }
 
 parsed! {
-    Date: parse_as, Time: parse_as, UtcOffset: parse_as, PlainDateTime: parse_as, UtcDateTime: parse_as,
-    OffsetDateTime: sealed::Sealed::parse_offset_date_time, Timestamp: parse_as,
+    Date: parse_as, "date"("2024-02-29"), "[day].[month].[year]", "29.02.2024",
+        "with_year(2024)", "[day].[month].", "29.02.";
+    Time: parse_as, "time"("12:34"), "[hour]h[minute]", "12h34", "with_hour_24(12)", "[minute]'", "34'";
+    UtcOffset: parse_as, "offset"("-5"), "GMT[offset_hour sign:mandatory]", "GMT-05",
+        "with_offset_hour(-5)", "[offset_minute]", "00";
+    PlainDateTime: parse_as, "datetime"("2024-02-29 12:34"), "[year][month][day]T[hour][minute]",
+        "20240229T1234", "with_year(2024)", "[day].[month]. [hour]:[minute]", "29.02. 12:34";
+    UtcDateTime: parse_as, "utc_datetime"("2024-02-29 12:34"), "[year][ordinal]T[hour][minute]Z",
+        "2024060T1234Z", "with_year(2024)", "[day].[month]. [hour]:[minute]", "29.02. 12:34";
+    OffsetDateTime: sealed::Sealed::parse_offset_date_time, "datetime"("2024-02-29 12:34 -5"),
+        "[year][month][day]T[hour][minute][offset_hour sign:mandatory]", "20240229T1234-05",
+        "with_offset_hour(-5)", "[year][month][day]T[hour][minute]", "20240229T1234";
+    Timestamp: parse_as, "timestamp"("1_709_210_040"), "[unix_timestamp]", "1709210040",
+        "with_hour_24(12)", "[year][month][day] [minute]", "20240229 34";
 }

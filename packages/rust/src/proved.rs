@@ -4,10 +4,11 @@
 //! The repository has these functions as Rattle sources, Rust with contracts, and proves that each
 //! meets its contract. `make/erase write` takes the contracts out and writes this module; only this
 //! page and the module [`memory`] are written by hand. The libraries `calendar_values`,
-//! `plain_times`, `utc_times`, `offset_times`, `stamp_times`, `rfc3339`, `local_texts` and
-//! `format_descriptions` are modules here. Each type also has the methods of the traits [`AsUtc`],
-//! [`Assume`], [`ToOffset`], [`ToTimestamp`] and [`Rfc3339`] itself, so that a program imports none
-//! of these.
+//! `plain_times`, `utc_times`, `offset_times`, `stamp_times`, `rfc3339`, `local_texts`,
+//! `duration_texts` and `format_descriptions` are modules here. So are `zones`, `zone_files` and
+//! `zoned_times`, which [`crate::zones`] alone calls: their types have fields whose ranges Rust
+//! does not keep. Each type also has the methods of the traits [`AsUtc`], [`Assume`], [`ToOffset`],
+//! [`ToTimestamp`] and [`Rfc3339`] itself, so that a program imports none of these.
 //!
 //! # Proofs, and the programs that you trust
 //!
@@ -28,12 +29,12 @@
 //!
 //! The page of a function has its contract under the heading Contract, in the words of the source.
 //! A `requires` is your duty as a caller; an `ensures` states the result.
-//! `docs/proofs/STATEMENT.md` has on one page all that you must believe, and
-//! `docs/reference/DEFINITIONS.md` has every definition of the headline.
+//! `docs/proofs/STATEMENT.md` has on one page all that you must believe, and `make/explain NAME`
+//! prints a contract with every definition that it leads to.
 //!
 //! # Whether it is in step
 //!
-//! The file `PROVED` names the kit that proved the sources, and the trees of their folders as
+//! The file `CHECKSUMS` names the kit that proved the sources, and the trees of their folders as
 //! `git rev-parse HEAD:FOLDER` prints them. It has the SHA-256 of each source and of each file of
 //! this module. `make/erase check` compares them, `gate/check_erased` compares the words, and
 //! `make/erase compare` makes the module again.
@@ -41,6 +42,7 @@
 // What the made modules have for Rattle or for their contracts alone.
 #![allow(dead_code, reason = "some functions here have no caller")]
 #![allow(unused_imports, reason = "some imports serve links of the docs alone")]
+#![allow(unused_labels, reason = "proofs name the places of loops")]
 #![allow(unused_variables, reason = "proofs name the places of loops")]
 #![allow(missing_docs, reason = "the sources document what their users call")]
 #![allow(clippy::manual_range_contains, reason = "sources compare both ends")]
@@ -48,11 +50,14 @@
     clippy::assign_op_pattern,
     clippy::let_and_return,
     clippy::manual_div_ceil,
+    clippy::manual_find,
     clippy::manual_ignore_case_cmp,
     clippy::manual_is_multiple_of,
     clippy::manual_map,
     clippy::manual_ok_err,
+    clippy::needless_range_loop,
     clippy::question_mark,
+    clippy::single_match,
     clippy::too_many_arguments,
     clippy::while_let_on_iterator,
     reason = "proofs follow the sources"
@@ -70,6 +75,7 @@
 #![allow(clippy::new_without_default, reason = "the sources have no Default")]
 
 pub mod calendar_values;
+pub mod duration_texts;
 pub mod format_descriptions;
 pub mod local_texts;
 pub mod memory;
@@ -78,6 +84,9 @@ pub mod plain_times;
 pub mod rfc3339;
 pub mod stamp_times;
 pub mod utc_times;
+pub(crate) mod zone_files;
+pub(crate) mod zoned_times;
+pub(crate) mod zones;
 
 pub use calendar_values::{
     ComponentRange, Date, DateAdjustment, Month, Part, SignedDuration, Text, Time, UtcOffset,

@@ -166,6 +166,13 @@ impl UtcOffset {
 impl Timestamp {
     /// The text of RFC 3339 in UTC, always with nine digits of the fraction, so that such texts are
     /// in the order of their instants. None outside the years 0 to 9999.
+    ///
+    /// ```
+    /// use muxandu::macros::timestamp;
+    ///
+    /// let text = timestamp!(1_709_210_040.5).to_rfc3339_nanos().unwrap();
+    /// assert_eq!(text, "2024-02-29T12:34:00.500000000Z");
+    /// ```
     #[must_use]
     pub fn to_rfc3339_nanos(self) -> Option<Text> {
         proved::to_rfc3339_nanos(self)

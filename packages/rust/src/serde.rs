@@ -26,63 +26,20 @@
 //! With that feature, formats for people read the numbers too. The modules below are for fields:
 //! `#[serde(with = "..")]`.
 
-/// The module for a value that may be missing, over the two functions of the module around it.
-macro_rules! option {
-    ($module:literal, $Written:path, $Read:path) => {
-        #[doc = concat!("The same of a value that may be missing: `#[serde(with = \"time::serde::", $module, "::option\", default)]`.")]
-        pub mod option {
-            use ::serde::{Deserialize, Deserializer, Serialize, Serializer};
-
-            #[allow(unused_imports)]
-            use super::*;
-
-            struct Item<T>(T);
-
-            impl<T: $Written> Serialize for Item<&T> {
-                fn serialize<S: Serializer>(&self, serializer: S) -> Result<S::Ok, S::Error> {
-                    super::serialize(self.0, serializer)
-                }
-            }
-
-            impl<'de, T: $Read> Deserialize<'de> for Item<T> {
-                fn deserialize<D: Deserializer<'de>>(deserializer: D) -> Result<Item<T>, D::Error> {
-                    super::deserialize(deserializer).map(Item)
-                }
-            }
-
-            /// Writes a value, or none.
-            ///
-            /// # Errors
-            ///
-            /// As without `option`.
-            pub fn serialize<T: $Written, S: Serializer>(
-                value: &Option<T>,
-                serializer: S,
-            ) -> Result<S::Ok, S::Error> {
-                value.as_ref().map(Item).serialize(serializer)
-            }
-
-            /// Reads a value, or none.
-            ///
-            /// # Errors
-            ///
-            /// As without `option`.
-            pub fn deserialize<'de, T: $Read, D: Deserializer<'de>>(
-                deserializer: D,
-            ) -> Result<Option<T>, D::Error> {
-                let item = Option::<Item<T>>::deserialize(deserializer)?;
-                Ok(item.map(|Item(value)| value))
-            }
-        }
-    };
-}
-
+#[doc(hidden)]
+#[macro_use]
+pub mod described;
 #[cfg(feature = "serde-human-readable")]
 mod human;
-#[cfg(feature = "serde-well-known")]
-pub mod rfc2822;
-#[cfg(feature = "serde-well-known")]
-pub mod rfc3339;
 pub mod text;
 pub mod timestamp;
 mod values;
+
+#[doc(inline)]
+pub use crate::serde_format_description as format_description;
+
+well_known! {
+    iso8601: "iso8601", "ISO 8601", Iso8601::<{ Config::DEFAULT.set_year_is_six_digits(true).encode() }>;
+    rfc2822: "rfc2822", "RFC 2822", Rfc2822;
+    rfc3339: "rfc3339", "RFC 3339", Rfc3339;
+}

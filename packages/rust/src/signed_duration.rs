@@ -24,6 +24,12 @@ impl SignedDuration {
     }
 
     /// The length in seconds: the nearest `f64`, or one next to it.
+    ///
+    /// ```
+    /// use muxandu::SignedDuration;
+    ///
+    /// assert_eq!(SignedDuration::milliseconds(-1_500).as_seconds_f64(), -1.5);
+    /// ```
     #[must_use]
     #[inline]
     pub fn as_seconds_f64(self) -> f64 {
@@ -31,6 +37,12 @@ impl SignedDuration {
     }
 
     /// The length in seconds: the nearest `f32`, or one next to it.
+    ///
+    /// ```
+    /// use muxandu::SignedDuration;
+    ///
+    /// assert_eq!(SignedDuration::milliseconds(-1_500).as_seconds_f32(), -1.5);
+    /// ```
     #[must_use]
     #[inline]
     pub fn as_seconds_f32(self) -> f32 {
@@ -264,7 +276,7 @@ compared! {
 /// ```
 impl fmt::Display for SignedDuration {
     fn fmt(&self, f: &mut fmt::Formatter<'_>) -> fmt::Result {
-        spelled::write_duration(f, self.whole_nanoseconds())
+        spelled::write_duration(f, *self)
     }
 }
 
@@ -285,8 +297,10 @@ impl fmt::Debug for SignedDuration {
     }
 }
 
-/// Reads the text of `Display`. Fails with [`Refusal::Syntax`], and with `duration` if the seconds
-/// do not fit in 64 bits.
+/// Reads the text of `Display`, and the others of
+/// [`parse_duration`](crate::proved::duration_texts::parse_duration), such as `1 day 2 hours`,
+/// `PT36H` or seconds alone. Fails with [`Refusal::Syntax`], and with `duration` if the seconds do
+/// not fit in 64 bits.
 impl FromStr for SignedDuration {
     type Err = Refusal;
 

@@ -4,6 +4,7 @@ use core::fmt::{self, Write};
 use core::str::FromStr;
 
 use crate::error::{ComponentRange, InvalidVariant};
+use crate::proved::duration_texts::{DurationFault, parse_duration, short_text};
 use crate::{
     Date, OffsetDateTime, PlainDateTime, Refusal, SignedDuration, Text, Time, Timestamp,
     UtcDateTime, UtcOffset, literal,
@@ -73,12 +74,12 @@ impl Write for Length {
 
 /// Writes a duration with the width, the alignment and the precision that are asked for.
 /// `Formatter::pad` would cut it at the precision.
-pub(crate) fn write_duration(f: &mut fmt::Formatter<'_>, nanoseconds: i128) -> fmt::Result {
+pub(crate) fn write_duration(f: &mut fmt::Formatter<'_>, duration: SignedDuration) -> fmt::Result {
     let (fill, decimals, mut length) = (f.fill(), f.precision(), Length(0));
     let Some(width) = f.width() else {
-        return write_all(f, nanoseconds, decimals);
+        return write_all(f, duration, decimals);
     };
-    write_all(&mut length, nanoseconds, decimals)?;
+    write_all(&mut length, duration, decimals)?;
     let missing = width.saturating_sub(length.0);
     let before = match f.align() {
         Some(fmt::Alignment::Right) => missing,
@@ -86,52 +87,35 @@ pub(crate) fn write_duration(f: &mut fmt::Formatter<'_>, nanoseconds: i128) -> f
         _ => 0,
     };
     (0..before).try_for_each(|_| f.write_char(fill))?;
-    write_all(f, nanoseconds, decimals)?;
+    write_all(f, duration, decimals)?;
     (before..missing).try_for_each(|_| f.write_char(fill))
 }
 
 /// The sign, and each unit, or the greatest alone with that many decimals.
 fn write_all(
     out: &mut impl Write,
-    whole_nanoseconds: i128,
+    duration: SignedDuration,
     decimals: Option<usize>,
 ) -> fmt::Result {
-    if whole_nanoseconds < 0 {
+    let Some(decimals) = decimals else {
+        return write_short(out, duration);
+    };
+    if duration.is_negative() {
         out.write_char('-')?;
     }
-    let nanoseconds = whole_nanoseconds.unsigned_abs();
-    match decimals {
-        None => write_units(out, nanoseconds),
-        Some(decimals) => write_rounded(out, nanoseconds, decimals.min(MOST_DECIMALS)),
-    }
+    let nanoseconds = duration.whole_nanoseconds().unsigned_abs();
+    write_rounded(out, nanoseconds, decimals.min(MOST_DECIMALS))
 }
 
-/// Each unit and its count, but for the counts of 0.
-fn write_units(out: &mut impl Write, nanoseconds: u128) -> fmt::Result {
-    if nanoseconds == 0 {
-        return out.write_str("0s");
-    }
-    let (length, unit) = UNITS[0];
-    write_count(out, nanoseconds / length, unit)?;
-    let mut rest = (nanoseconds % length) as u64;
-    for (length, unit) in &UNITS[1..] {
-        let length = *length as u64;
-        write_count(out, rest / length, unit)?;
-        rest %= length;
-    }
-    Ok(())
-}
-
-/// A count and its unit, but for the count of 0.
-fn write_count<T: fmt::Display + Default + PartialEq>(
-    out: &mut impl Write,
-    count: T,
-    unit: &str,
-) -> fmt::Result {
-    if count == T::default() {
-        return Ok(());
-    }
-    write!(out, "{count}{unit}")
+/// Each unit and its count. The proved text is ASCII: its `us` is `µs` here, as in `time`.
+fn write_short(out: &mut impl Write, duration: SignedDuration) -> fmt::Result {
+    let text = short_text(duration);
+    let Some((before, after)) = text.as_str().split_once('u') else {
+        return out.write_str(text.as_str());
+    };
+    out.write_str(before)?;
+    out.write_char('µ')?;
+    out.write_str(after)
 }
 
 /// 128 bits hold the nanoseconds of less than a day, times 10 to the power of this.
@@ -158,29 +142,12 @@ fn write_rounded(out: &mut impl Write, nanoseconds: u128, decimals: usize) -> fm
     out.write_str(unit)
 }
 
-/// Reads the units in their order, and answers only what is written so.
+/// Reads a duration by the proved grammar.
 pub(crate) fn duration(text: &str) -> Result<SignedDuration, Refusal> {
-    let (is_negative, mut rest) = match text.strip_prefix('-') {
-        Some(rest) => (true, rest),
-        None => (false, text),
-    };
-    let mut whole: i128 = 0;
-    while !rest.is_empty() {
-        let digits = rest.bytes().take_while(u8::is_ascii_digit).count();
-        let (number, after) = rest.split_at(digits);
-        let letters = after.bytes().take_while(|byte| !byte.is_ascii_digit()).count();
-        let (name, after) = after.split_at(letters);
-        let unit = UNITS.iter().find(|(_, unit)| *unit == name).ok_or(Refusal::Syntax)?;
-        let count: i128 = number.parse().map_err(|_| Refusal::Syntax)?;
-        whole = whole.saturating_add(count.saturating_mul(unit.0 as i128));
-        rest = after;
-    }
-    let whole = if is_negative { -whole } else { whole };
-    let mut rest = Rest(text);
-    if write_all(&mut rest, whole, None).is_err() || !rest.0.is_empty() {
-        return Err(Refusal::Syntax);
-    }
-    SignedDuration::of_nanoseconds(whole).ok_or(Refusal::OutOfRange("duration"))
+    parse_duration(text.as_bytes()).map_err(|refused| match refused.fault {
+        DurationFault::Range => Refusal::OutOfRange("duration"),
+        _ => Refusal::Syntax,
+    })
 }
 
 /// `FromStr` of types whose texts are those of their literals.

@@ -4,6 +4,13 @@ use crate::{SignedDuration, Time};
 
 impl Time {
     /// The duration from this time of day on to the next other, which may be on the next day.
+    ///
+    /// ```
+    /// use muxandu::ext::NumericalDuration as _;
+    /// use muxandu::macros::time;
+    ///
+    /// assert_eq!(time!(18:00).duration_until(time!(6:00)), 12.hours());
+    /// ```
     #[must_use]
     #[inline]
     pub fn duration_until(self, other: Time) -> SignedDuration {
@@ -13,6 +20,13 @@ impl Time {
 
     /// The duration from the last other on to this time of day, which may have been on the day
     /// before.
+    ///
+    /// ```
+    /// use muxandu::ext::NumericalDuration as _;
+    /// use muxandu::macros::time;
+    ///
+    /// assert_eq!(time!(6:00).duration_since(time!(23:00)), 7.hours());
+    /// ```
     #[must_use]
     #[inline]
     pub fn duration_since(self, other: Time) -> SignedDuration {

@@ -28,6 +28,14 @@ pub enum Unit {
 
 impl OffsetDateTime {
     /// Rounded down to a unit, as the clocks show it.
+    ///
+    /// ```
+    /// use muxandu::Unit;
+    /// use muxandu::macros::datetime;
+    ///
+    /// let at = datetime!(2024-02-29 12:34:56.789 +5:30);
+    /// assert_eq!(at.truncated_to(Unit::Hour), datetime!(2024-02-29 12:00 +5:30));
+    /// ```
     #[must_use]
     #[inline]
     pub fn truncated_to(self, unit: Unit) -> OffsetDateTime {
@@ -45,6 +53,13 @@ impl OffsetDateTime {
 
 impl Timestamp {
     /// The instant rounded down to a unit in UTC.
+    ///
+    /// ```
+    /// use muxandu::Unit;
+    /// use muxandu::macros::timestamp;
+    ///
+    /// assert_eq!(timestamp!(1_709_168_523.5).truncated_to(Unit::Day), timestamp!(1_709_164_800));
+    /// ```
     #[must_use]
     #[inline]
     pub fn truncated_to(self, unit: Unit) -> Timestamp {

@@ -8,6 +8,12 @@ use crate::UtcOffset;
 
 impl UtcOffset {
     /// The whole minutes, towards zero.
+    ///
+    /// ```
+    /// use muxandu::macros::offset;
+    ///
+    /// assert_eq!(offset!(-1:30:45).whole_minutes(), -90);
+    /// ```
     #[must_use]
     #[inline]
     pub const fn whole_minutes(self) -> i16 {
@@ -15,6 +21,12 @@ impl UtcOffset {
     }
 
     /// Whether clocks show more than in UTC.
+    ///
+    /// ```
+    /// use muxandu::macros::offset;
+    ///
+    /// assert!(offset!(+0:00:01).is_positive() && !offset!(UTC).is_positive());
+    /// ```
     #[must_use]
     #[inline]
     pub const fn is_positive(self) -> bool {

@@ -17,6 +17,13 @@ pub const fn days_in_month(month: Month, year: i32) -> u8 {
 }
 
 /// Returns the number of days of a month.
+///
+/// ```
+/// # #![allow(deprecated)]
+/// use muxandu::{Month, util};
+///
+/// assert_eq!(util::days_in_year_month(2024, Month::February), 29);
+/// ```
 #[must_use]
 #[deprecated(note = "use `days_in_month`, or `Month::length`")]
 pub const fn days_in_year_month(year: i32, month: Month) -> u8 {

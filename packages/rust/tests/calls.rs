@@ -331,8 +331,27 @@ fn texts_of_other_forms_are_refused() {
     assert_eq!("2024-02-29 1:02:03.0 +00:00:00".parse::<UtcDateTime>(), Err(Refusal::Syntax));
     assert_eq!("1.50".parse::<Timestamp>(), Err(Refusal::Syntax));
     assert_eq!("-0".parse::<Timestamp>(), Err(Refusal::Syntax));
-    assert_eq!("1h60m".parse::<SignedDuration>(), Err(Refusal::Syntax));
+    for text in ["2024-02-29", "1 000", "1 month", "1.", "1h30", "PT", "0.5ns"] {
+        assert_eq!(text.parse::<SignedDuration>(), Err(Refusal::Syntax), "{text}");
+    }
+    let past_the_end = "106751991167301 days".parse::<SignedDuration>();
+    assert_eq!(past_the_end, Err(Refusal::OutOfRange("duration")));
     assert!("Mon".parse::<Weekday>().is_err() && "january".parse::<Month>().is_err());
+}
+
+#[test]
+fn texts_of_durations() {
+    for (text, duration) in [
+        ("36h", 36.hours()),
+        ("PT36H", 36.hours()),
+        ("-1h30m", -90.minutes()),
+        ("-1 hour 30 minutes", -30.minutes()),
+        ("1 day -0.5 seconds", 1.days() - 500.milliseconds()),
+        ("1.5", 1_500.milliseconds()),
+        ("7µs", 7.microseconds()),
+    ] {
+        assert_eq!(text.parse(), Ok(duration), "{text}");
+    }
 }
 
 #[test]

@@ -7,7 +7,9 @@ use muxandu::error::{
 };
 use muxandu::format_description::parse_owned;
 use muxandu::format_description::well_known::{Rfc2822, Rfc3339};
-use muxandu::format_description::{BorrowedFormatItem, Component, OwnedFormatItem, modifier};
+use muxandu::format_description::{
+    BorrowedFormatItem, Component, OwnedFormatItem, StaticFormatDescription, modifier,
+};
 use muxandu::macros::{date, datetime, format_description, offset, time, utc_datetime};
 use muxandu::parsing::{Parsable, Parsed};
 use muxandu::{
@@ -147,6 +149,18 @@ fn values_are_read() {
         Timestamp::parse("1546398245.500", unix),
         Ok(datetime!(2019-01-02 3:04:05.5 UTC).into())
     );
+    let finer = [
+        format_description!("[unix_timestamp precision:millisecond] [subsecond]"),
+        format_description!("[unix_timestamp precision:microsecond] [subsecond]"),
+    ];
+    let at = datetime!(1969-12-31 23:59:58.499999999 UTC);
+    for form in finer {
+        assert_eq!(OffsetDateTime::parse(&at.format(form).unwrap(), form), Ok(at));
+    }
+    assert_eq!(
+        OffsetDateTime::parse("1709166600500 500000001", finer[0]),
+        Ok(datetime!(2024-02-29 0:30:00.500000001 UTC))
+    );
     let defaults = Parsed::new().with_hour_24(12).unwrap();
     assert_eq!(
         UtcDateTime::parse_with_defaults(b"2020-01-02", &day, defaults),
@@ -250,6 +264,53 @@ fn optional_and_first_items_are_read() {
         assert_eq!(parse_owned::<1>(text), Err(refused), "{text}");
     }
     assert_eq!(time!(12:34:56).format(&items[..2]).unwrap(), "12:34:56.0");
+}
+
+/// The macro makes the items that `parse_owned` reads, at compile time, also as a constant.
+#[test]
+fn groups_are_items_of_the_macro() {
+    const CLOCK: StaticFormatDescription = format_description!(
+        version = 2,
+        "[hour]:[minute][optional [:[second][optional [.[subsecond]]]]][first [Z] [ UTC]]"
+    );
+    let zoned =
+        format_description!("[[[year][first [[optional [-]][month]] [/[month]]][optional [!]]]");
+    let no_group = format_description!("at [hour]");
+    for (items, text, version) in [
+        (
+            CLOCK,
+            "[hour]:[minute][optional [:[second][optional [.[subsecond]]]]][first [Z] [ UTC]]",
+            2,
+        ),
+        (zoned, "[[[year][first [[optional [-]][month]] [/[month]]][optional [!]]]", 1),
+        (no_group, "at [hour]", 1),
+        (format_description!(""), "", 1),
+        (format_description!("[optional []]"), "[optional []]", 1),
+    ] {
+        let read = if version == 1 { parse_owned::<1>(text) } else { parse_owned::<2>(text) };
+        assert_eq!(read, Ok(items.into()), "{text}");
+    }
+    for (text, wanted) in [
+        ("12:34Z", time!(12:34)),
+        ("12:34:56 UTC", time!(12:34:56)),
+        ("12:34:56.5Z", time!(12:34:56.5)),
+    ] {
+        assert_eq!(Time::parse(text, CLOCK), Ok(wanted), "{text}");
+    }
+    assert!(Time::parse("12:34.5Z", CLOCK).is_err() && Time::parse("12:34", CLOCK).is_err());
+    assert_eq!(time!(12:34:56.5).format(CLOCK).unwrap(), "12:34:56.5Z");
+    assert_eq!(date!(2024 - 02 - 29).format(zoned).unwrap(), "[2024-02!]");
+}
+
+/// A group ends where its bracket does, also between two literals.
+#[test]
+fn literals_after_a_group_are_not_in_it() {
+    let read = parse_owned::<2>("[hour][optional [h]]. [first [a] [b]]c").unwrap();
+    assert_eq!(time!(12:00).format(&read).unwrap(), "12h. ac");
+    for text in ["12h. ac", "12. bc", "12. ac"] {
+        assert_eq!(Time::parse(text, &read), Ok(time!(12:00)), "{text}");
+    }
+    assert!(Time::parse("12h. a", &read).is_err() && Time::parse("12h. c", &read).is_err());
 }
 
 /// As `time` documents it for `Parsed`: a list that fails changes nothing, and an optional item never fails.
@@ -421,6 +482,17 @@ fn years_of_rfc_2822() {
         ["0002", "1899", "+2002", "-2002", "-02", "2", "102", "02002", "+12002", "20020000000", ""]
     {
         assert_eq!(year(digits), None, "{digits}");
+    }
+    // Mail often has the name of its zone in brackets at the end, which `time` 0.3.9 rejects.
+    for end in [" (CST)", "\t(a (b) \\) c) ", " () (CST)"] {
+        let text = format!("7 Sep 02 00:00 -0600{end}");
+        let read = OffsetDateTime::parse(&text, &Rfc2822);
+        assert_eq!(read, Ok(datetime!(2002-09-07 0:00 -6)), "{end}");
+    }
+    for end in [" (CST", " CST", " (CST) b"] {
+        let text = format!("7 Sep 02 00:00 -0600{end}");
+        let read = OffsetDateTime::parse(&text, &Rfc2822);
+        assert_eq!(read, Err(Parse::UnexpectedTrailingCharacters), "{end}");
     }
     let read = OffsetDateTime::parse("7 Sep 0002 00:00 GMT", &Rfc2822);
     let wanted = Parse::ParseFromDescription(ParseFromDescription::InvalidComponent("year"));

@@ -221,36 +221,70 @@ fn timestamp(text: &str) -> Reading {
     Some(is_held.then(|| vec![count]).ok_or(Refusal::OutOfRange("seconds")))
 }
 
-fn duration(text: &str) -> Reading {
-    let units = [("d", 86_400_000), ("h", 3_600_000), ("m", 60_000), ("s", 1_000), ("ms", 1)];
-    let units = units.map(|(name, milliseconds)| (name, milliseconds * 1_000_000));
-    let units: Vec<(&str, i128)> = units.into_iter().chain([("µs", 1_000), ("ns", 1)]).collect();
-    let (sign, mut rest) = match text.strip_prefix('-') {
-        Some(rest) => ("-", rest),
-        None => ("", text),
-    };
-    let mut whole = 0_i128;
-    while !rest.is_empty() {
-        let (number, after) = rest.split_at(rest.find(|letter: char| !letter.is_ascii_digit())?);
-        let end = after.find(|letter: char| letter.is_ascii_digit()).unwrap_or(after.len());
-        let (_, unit) = units.iter().find(|(name, _)| *name == &after[..end])?;
-        whole += number.parse::<i128>().ok().filter(|number| *number < 1 << 80)? * unit;
-        rest = &after[end..];
-    }
-    let mut written = String::from(sign);
-    let mut left = whole;
-    for (name, unit) in &units {
-        if left >= *unit {
-            written.push_str(&format!("{}{name}", left / unit));
-        }
-        left %= unit;
-    }
-    if text != if whole == 0 { "0s" } else { &written } {
+/// The names of the units of durations, and their nanoseconds.
+const UNITS: [(&[&str], i128); 7] = [
+    (&["d", "day", "days"], DAY),
+    (&["h", "hour", "hours"], 3_600_000_000_000),
+    (&["m", "minute", "minutes"], 60_000_000_000),
+    (&["s", "second", "seconds"], 1_000_000_000),
+    (&["ms", "millisecond", "milliseconds"], 1_000_000),
+    (&["us", "µs", "microsecond", "microseconds"], 1_000),
+    (&["ns", "nanosecond", "nanoseconds"], 1),
+];
+
+/// What the letters in front of a text are, and what follows them.
+fn split(text: &str, is_one: fn(char) -> bool) -> (&str, &str) {
+    text.split_at(text.find(|letter| !is_one(letter)).unwrap_or(text.len()))
+}
+
+/// A number of a unit, in nanoseconds. None if they are not whole.
+fn of_unit(whole: &str, fraction: &str, unit: i128) -> Option<Result<i128, Refusal>> {
+    let fraction = fraction.trim_end_matches('0');
+    let scale = 10_i128.checked_pow(fraction.len() as u32)?;
+    let scaled = format!("0{fraction}").parse::<i128>().ok()?.checked_mul(unit)?;
+    if scaled % scale != 0 {
         return None;
     }
-    let whole = if sign.is_empty() { whole } else { -whole };
-    let is_held = i64::try_from(whole / 1_000_000_000).is_ok();
-    Some(is_held.then(|| vec![whole]).ok_or(Refusal::OutOfRange("duration")))
+    let count = whole.parse::<i128>().ok().and_then(|whole| whole.checked_mul(unit));
+    Some(count.map(|count| count + scaled / scale).ok_or(Refusal::OutOfRange("duration")))
+}
+
+fn duration(text: &str) -> Reading {
+    let (mut rest, mut is_negative, mut sum) = (text.trim_start_matches(' '), false, 0_i128);
+    for number in 0.. {
+        if let Some(after) = rest.strip_prefix(['-', '+']) {
+            (is_negative, rest) = (rest.starts_with('-'), after);
+        }
+        let (whole, after) = split(rest, |letter| letter.is_ascii_digit());
+        let (fraction, after) = match after.strip_prefix('.') {
+            Some(after) => split(after, |letter| letter.is_ascii_digit()),
+            None => ("0", after),
+        };
+        if whole.is_empty() || fraction.is_empty() {
+            return None;
+        }
+        let word = after.trim_start_matches(' ');
+        let (name, after) =
+            split(word, |letter| letter.is_ascii_alphabetic() || !letter.is_ascii());
+        let name = match name {
+            "" if number == 0 && word.is_empty() => String::from("s"),
+            name => name.to_ascii_lowercase(),
+        };
+        let (_, unit) = UNITS.iter().find(|(names, _)| names.contains(&name.as_str()))?;
+        let Ok(count) = of_unit(whole, fraction, *unit)? else {
+            return Some(Err(Refusal::OutOfRange("duration")));
+        };
+        sum += if is_negative { -count } else { count };
+        if i64::try_from(sum / 1_000_000_000).is_err() {
+            return Some(Err(Refusal::OutOfRange("duration")));
+        }
+        rest = after.trim_start_matches(' ');
+        if rest.is_empty() {
+            break;
+        }
+        is_negative &= rest.len() == after.len();
+    }
+    Some(Ok(vec![sum]))
 }
 
 struct Source(u64);
@@ -384,7 +418,17 @@ fn timestamps() {
 
 #[test]
 fn durations() {
-    let forms =
-        ["0s", "1d2h5m0s", "-1s500ms", "1ms1µs100ns", "106751991160000d10h", "-5d10h20m3ns"];
+    let forms = [
+        "0s",
+        "1d2h5m0s",
+        "-1s500ms",
+        "1ms1µs100ns",
+        "106751991160000d10h",
+        "-5d10h20m3ns",
+        "00 days -0.5 seconds",
+        " 0.250 ",
+        "1 hour 00 minutes",
+        "106751991160000 days",
+    ];
     compare(&forms, duration, |duration: SignedDuration| vec![duration.whole_nanoseconds()]);
 }

@@ -244,6 +244,16 @@ static const char *const OF_TEXTS[] = {
     "SELECT muxandu_sortable_or_null('2024-02-29T12:00:00Z')",
     "SELECT muxandu_add('2024-02-29T12:00:00Z', 1, 'day')",
     "SELECT muxandu_add_or_null('2024-02-29T12:00:00Z', 1, 'day')",
+    "SELECT muxandu_truncate('2024-02-29T12:00:00Z', 'week')",
+    "SELECT muxandu_bin('2024-02-29T12:00:00Z', 15, 'minutes', '2024-02-28T12:00:00Z')",
+    "SELECT muxandu_local_date('2024-02-29T12:00:00Z')",
+    "SELECT muxandu_format('2024-02-29T12:00:00Z', '[day].[month].[year]')",
+    "SELECT muxandu_parse('29.02.2024 12:00', '[day].[month].[year] [hour]:[minute]', '+01:00')",
+    "SELECT muxandu_parse_or_null('29.02.2024 12:00', '[day].[month].[year] [hour]:[minute]')",
+    "SELECT muxandu_at_zone('2024-02-29T12:00:00Z', 'Europe/Berlin')",
+    "SELECT muxandu_at_zone('2024-02-29T12:00:00Z', 'Europe/Berlinn')",
+    "SELECT muxandu_at_zone_or_null('2024-02-29T12:00:00Z', 'Europe/Berlin')",
+    "SELECT muxandu_from_iso('-004713-11-24T00:00:00Z')",
     "SELECT muxandu_difference('2024-02-29T12:00:00Z', '2024-02-28T12:00:00Z', 'hours')",
     "SELECT muxandu_difference_or_null('2024-02-29T12:00:00Z', '2024-02-28T12:00:00Z', 'hours')",
     "SELECT muxandu_compare('2024-02-29T12:00:00Z', '2024-02-28T12:00:00Z')",
@@ -260,7 +270,7 @@ static const char *const OF_TEXTS[] = {
 static const char *const OTHERS[] = {
     "SELECT muxandu_text(0, 3600, 5)",         "SELECT muxandu_text(0, 30)",
     "SELECT muxandu_text_or_null(0, 3600, 5)", "SELECT at_offset FROM muxandu_parts(NULL)",
-    "SELECT year FROM muxandu_parts",
+    "SELECT year FROM muxandu_parts",          "SELECT muxandu_to_iso(-210866803200, 4772)",
 };
 
 /* Rows of four kinds of texts, of which one is NULL and one is refused. */
@@ -277,6 +287,7 @@ static const char *const OF_ROWS[] = {
     "SELECT *, of_text, at_offset FROM t, muxandu_parts(x, 3600) WHERE muxandu_refused(x) IS NULL LIMIT ?1",
     "SELECT *, of_text, at_offset FROM t, muxandu_parts_or_null(x, 3600) LIMIT ?1",
     "SELECT muxandu_to_offset_or_null(x, 3600), muxandu_sortable_or_null(x), muxandu_add_or_null(x, 1) FROM t LIMIT ?1",
+    "SELECT muxandu_at_zone_or_null(x, 'Europe/Berlin'), muxandu_at_zone_or_null(x, 'nowhere') FROM t LIMIT ?1",
 };
 
 /* The most bytes that SQLite holds while a statement reads so many rows. */

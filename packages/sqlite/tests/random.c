@@ -13,7 +13,7 @@
 #include <stdlib.h>
 #include <string.h>
 
-enum { MOST_ARGUMENTS = 3, LONGEST = 200000, MOST_WRITTEN = 64, MOST_TOLD = 20, CONNECTIONS = 2 };
+enum { MOST_ARGUMENTS = 4, LONGEST = 200000, MOST_WRITTEN = 64, MOST_TOLD = 20, CONNECTIONS = 2 };
 
 static uint64_t state;
 static int passed, failed;
@@ -72,12 +72,23 @@ static Call calls[] = {
     {.name = "muxandu_text", .shown = "select muxandu_text%s(?1)", .arguments = 1},
     {.name = "muxandu_text", .shown = "select muxandu_text%s(?1, ?2)", .arguments = 2},
     {.name = "muxandu_text", .shown = "select muxandu_text%s(?1, ?2, ?3)", .arguments = 3},
+    {.name = "muxandu_to_iso", .shown = "select muxandu_to_iso%s(?1, ?2, ?3)", .arguments = 3},
+    {.name = "muxandu_from_iso", .shown = "select muxandu_from_iso%s(?1, ?2)", .arguments = 2},
+    {.name = "muxandu_at_zone", .shown = "select muxandu_at_zone%s(?1, ?2)", .arguments = 2},
     {.name = "muxandu_to_offset", .shown = "select muxandu_to_offset%s(?1, ?2)", .arguments = 2},
     {.name = "muxandu_sortable", .shown = "select muxandu_sortable%s(?1)", .arguments = 1},
     {.name = "muxandu_add", .shown = "select muxandu_add%s(?1, ?2)", .arguments = 2},
     {.name = "muxandu_add", .shown = "select muxandu_add%s(?1, ?2, ?3)", .arguments = 3},
     {.name = "muxandu_difference", .shown = "select muxandu_difference%s(?1, ?2)", .arguments = 2},
     {.name = "muxandu_difference", .shown = "select muxandu_difference%s(?1, ?2, ?3)", .arguments = 3},
+    {.name = "muxandu_bin", .shown = "select muxandu_bin%s(?1, ?2, ?3)", .arguments = 3},
+    {.name = "muxandu_bin", .shown = "select muxandu_bin%s(?1, ?2, ?3, ?4)", .arguments = 4},
+    {.name = "muxandu_truncate", .shown = "select muxandu_truncate%s(?1, ?2)", .arguments = 2},
+    {.name = "muxandu_add_months", .shown = "select muxandu_add_months%s(?1, ?2)", .arguments = 2},
+    {.name = "muxandu_local_date", .shown = "select muxandu_local_date%s(?1)", .arguments = 1},
+    {.name = "muxandu_format", .shown = "select muxandu_format%s(?1, ?2)", .arguments = 2},
+    {.name = "muxandu_parse", .shown = "select muxandu_parse%s(?1, ?2)", .arguments = 2},
+    {.name = "muxandu_parse", .shown = "select muxandu_parse%s(?1, ?2, ?3)", .arguments = 3},
     {.name = "muxandu_compare", .shown = "select muxandu_compare%s(?1, ?2)", .arguments = 2},
     {.name = "muxandu_parts", .shown = "select * from muxandu_parts%s(?1)", .arguments = 1},
     {.name = "muxandu_parts", .shown = "select * from muxandu_parts%s(?1, ?2)", .arguments = 2},
@@ -159,8 +170,15 @@ static int spoil(char *bytes, int size) {
 }
 
 static void make_bytes(Argument *argument) {
-    static const char *const words[] = {"second", "Seconds",    "MINUTES",      "hour",        "day",
-                                        "days",   "nanosecond", "microseconds", "millisecond", "week"};
+    static const char *const words[] = {"second",        "Seconds",
+                                        "MINUTES",       "hour",
+                                        "day",           "days",
+                                        "nanosecond",    "microseconds",
+                                        "millisecond",   "week",
+                                        "+05:30",        "Quarter",
+                                        "[year]",        "[day].[month].[year] [hour]:[minute]",
+                                        "Europe/Berlin", "Asia/Tokyo",
+                                        "../UTC",        "zone.tab"};
     argument->size = some_size();
     argument->bytes = malloc((size_t)argument->size + 2 * MOST_WRITTEN);
     if (argument->bytes == NULL) end("no memory");

@@ -230,6 +230,24 @@ class Read(Programs):
         self.assertEqual(caught.exception.errno, 22)
 
 
+def record_batch(numbers, offsets, form, gaps):
+    """A record batch as muxandu_arrow.h makes it: a timestamp, and an offset."""
+    make, schema, array = _arrow_structures.make, _arrow_structures.Schema, _arrow_structures.Array
+    fields = tuple(
+        make(schema, None, format=each, name=name) for each, name in ((form.encode(), b"at"), (b"i", b"offset_seconds"))
+    )
+    children = []
+    for values in (numpy.array(numbers, numpy.int64), numpy.array(offsets, numpy.int32)):
+        bits = None if gaps is None else numpy.packbits(~numpy.array(gaps), bitorder="little")
+        places = (ctypes.c_void_p * 2)(None if bits is None else bits.ctypes.data, values.ctypes.data)
+        children.append(make(array, (values, bits, places), length=len(values), n_buffers=2, buffers=places))
+    whole = _arrow_structures.make_parent(schema, None, fields, format=b"+s", name=b"")
+    rows = _arrow_structures.make_parent(
+        array, None, tuple(children), length=len(numbers), n_buffers=1, buffers=(ctypes.c_void_p * 1)(None)
+    )
+    return Capsules(*map(_arrow_structures.capsule_of, (whole, rows)))
+
+
 class Columns(unittest.TestCase):
     """What a column gives to a reader of Arrow, and takes from one."""
 
@@ -250,6 +268,23 @@ class Columns(unittest.TestCase):
         _arrow_structures.release(taken)
         with self.assertRaisesRegex(ValueError, "the arrow_array is released: ask for a new one"):
             columns.moments_from_arrow(Capsules(schema, array))
+
+    def test_timestamps_beside_offsets(self):
+        seconds, offsets = [-1, 0, 5, 1_709_159_400], [0, 7_200, -60, 93_599]
+        for unit, units in (("s", 1), ("m", 10**3), ("u", 10**6), ("n", 10**9)):
+            for zone in ("UTC", "Europe/Paris"):
+                for gaps in (None, [False, True, False, False]):
+                    numbers = [second * units + units // 3 for second in seconds]
+                    read = columns.moments_from_arrow(record_batch(numbers, offsets, f"ts{unit}:{zone}", gaps)).tolist()
+                    rest = units // 3 * (10**9 // units)
+                    wanted = [(second, rest, offset) for second, offset in zip(seconds, offsets)]
+                    self.assertEqual(read, [GAP if gap else row for row, gap in zip(wanted, gaps or [False] * 4)])
+        self.assertEqual(from_arrow(record_batch([], [], "tsn:UTC", None)).tolist(), [])
+        for form in ("tsn:", "tsx:UTC", "tdn", "l"):
+            with self.assertRaisesRegex(TypeError, "or of at: timestamp and offset_seconds: int32"):
+                columns.moments_from_arrow(record_batch([0], [0], form, None))
+        with self.assertRaises(muxandu.RefusedOffsetSeconds):
+            columns.moments_from_arrow(record_batch([0], [93_600], "tss:UTC", None))
 
     def test_rows_out_of_range_are_named(self):
         for row, refusal in (

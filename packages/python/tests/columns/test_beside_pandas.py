@@ -12,6 +12,7 @@ import operator
 import sqlite3
 import unittest
 import warnings
+import zoneinfo
 
 import numpy
 import pandas
@@ -67,6 +68,11 @@ def in_order(at):
     return frame(at).dropna().sort_values("at", kind="stable")
 
 
+def once(at):
+    """Numbers by each instant, in their order."""
+    return frame(at).dropna().drop_duplicates("at").set_index("at")["n"].sort_index()
+
+
 def plain(item):
     """A result without types: an instant and a length in nanoseconds, a gap as None, and a table by its columns."""
     if isinstance(item, pandas.DataFrame):
@@ -116,6 +122,14 @@ ALIKE = {
     "groupby last": lambda at: frame(at).groupby("g")["at"].last(),
     "groupby min": lambda at: frame(at).groupby("g")["at"].min(),
     "groupby max": lambda at: frame(at).groupby("g")["at"].max(),
+    "groupby first of two": lambda at: frame(at).groupby("g")["at"].first(min_count=2),
+    "groupby max of two": lambda at: frame(at).groupby("g")["at"].max(min_count=2),
+    "groupby of keys with a gap": lambda at: frame(at).assign(g=frame(at)["g"].replace(1, numpy.nan)).groupby("g")["at"].min(),
+    "groupby rank": lambda at: frame(at).groupby("g")["at"].rank(),
+    "groupby rank from the last": lambda at: frame(at).groupby("g")["at"].rank(method="min", ascending=False, na_option="top"),
+    "groupby cummax": lambda at: frame(at).groupby("g")["at"].cummax(),
+    "groupby cummin": lambda at: frame(at).groupby("g")["at"].cummin(),
+    "groupby nunique": lambda at: frame(at).groupby("g")["at"].nunique(),
     "groupby agg": lambda at: frame(at).groupby("g").agg(first=("at", "min"), last=("at", "max"), n=("n", "sum")),
     "groupby diff": lambda at: frame(at).groupby("g")["at"].diff(),
     "groupby shift": lambda at: frame(at).groupby("g")["at"].shift(),
@@ -147,6 +161,54 @@ ALIKE = {
     "pivot_table": lambda at: frame(at).dropna().pivot_table(index="at", columns="g", values="n"),
     "merge": lambda at: frame(at).dropna().merge(frame(at).dropna()[::-1], on="at", sort=True),
     "value_counts": lambda at: at.value_counts().sort_index(),
+    "mode": lambda at: at.mode(),
+    "mode with gaps": lambda at: at.mode(dropna=False),
+    "duplicated": lambda at: [at.duplicated(keep) for keep in ("first", "last", False)],
+    "duplicated of an index": lambda at: pandas.Index(at).duplicated("last"),
+    "drop_duplicates": lambda at: at.drop_duplicates(keep="last"),
+    "factorize": lambda at: [*pandas.factorize(at), *pandas.factorize(at, sort=True)],
+    "the places of the ends": lambda at: [at.argmin(), at.argmax(), at.idxmin(), at.idxmax()],
+    "filled from the row before": lambda at: [at.ffill(), at.ffill(limit=1), at.bfill(), at.bfill(limit=2)],
+    "shift": lambda at: [at.shift(2), at.shift(-1), at.shift(1, fill_value=NOON)],
+    "where": lambda at: at.where(numpy.arange(len(at)) % 2 == 0),
+    "a key of each row": lambda at: [frame(at).dropna().set_index("at")["n"].sort_index().loc[key] for key in at.dropna()],
+    "quantiles that are rows": lambda at: [
+        at.dropna().quantile(share, interpolation=way) for share in (0, 0.3, 0.5, 1) for way in ("lower", "higher", "nearest")
+    ],
+    "ranks as shares": lambda at: [at.rank(pct=True), at.rank(method="dense", na_option="bottom")],
+    "the order with gaps first": lambda at: at.sort_values(na_position="first", kind="stable"),
+    "the order in groups": lambda at: frame(at).sort_values(["g", "at"], ascending=[True, False], kind="stable")["n"],
+    "groups with a gap": lambda at: frame(at).groupby("at", dropna=False)["n"].sum(),
+    "groups of two keys": lambda at: frame(at).groupby(["at", "g"], sort=False)["n"].sum(),
+    "rows of groups": lambda at: [getattr(frame(at).groupby("g")["at"], way)(1) for way in ("head", "tail", "nth")],
+    "numbers of groups": lambda at: [frame(at).groupby("at").ngroup(), frame(at).groupby("at").cumcount()],
+    "groups filled": lambda at: [frame(at).groupby("g")["at"].bfill(), frame(at).groupby("g")["at"].ffill(limit=1)],
+    "merge with its side": lambda at: frame(at)
+    .merge(frame(at)[::2], "outer", "at", indicator=True, sort=True)["_merge"]
+    .astype(str),
+    "merge_ordered": lambda at: pandas.merge_ordered(frame(at).dropna(), frame(at).dropna()[::2], on="at", fill_method="ffill"),
+    "sums by an index": lambda at: once(at) + once(at[::2]),
+    "unstack": lambda at: frame(at).dropna().drop_duplicates("at").set_index(["g", "at"])["n"].unstack().to_numpy(),
+    "sets of an index": lambda at: [
+        getattr(once(at).index, way)(once(at[::2]).index) for way in ("union", "difference", "symmetric_difference")
+    ],
+    "places in an index": lambda at: [once(at).index.get_indexer(at[::2].dropna()), once(at).index.get_indexer([NOON])],
+    "an index changed": lambda at: [
+        pandas.Index(at).insert(0, NOON),
+        pandas.Index(at).delete(0),
+        pandas.Index(at).where(numpy.arange(len(at)) % 2 == 0, NOON),
+        pandas.Index(at).repeat(2),
+    ],
+    "order of an index": lambda at: [
+        pandas.Index(at.dropna()).is_monotonic_decreasing,
+        pandas.Index(at.dropna().sort_values()).is_monotonic_increasing,
+        pandas.Index(at).is_unique,
+        pandas.Index(at).hasnans,
+    ],
+    "rows that are set": lambda at: [at.mask(at.isna(), NOON), at.combine_first(at.shift()), at.reindex([0, 1, 99])],
+    "clip on both sides": lambda at: at.clip(NOON - pandas.Timedelta("1d"), NOON),
+    "values by a table": lambda at: at.map({item: place for place, item in enumerate(at.dropna().unique())}),
+    "slices": lambda at: [in_order(at).set_index("at")["n"].loc[NOON:], in_order(at).set_index("at")["n"].loc[: at.max()]],
 }
 
 # Those that are exact for moments, and sums of floats in pandas. The median of groups has no gaps: pandas 1.5 counts NaT in it.
@@ -170,8 +232,16 @@ OWN = {
         lambda at: frame(at).assign(at=utc_of(at).moment.floor("6h")).groupby(["at", "g"])["n"].sum(),
         lambda at: frame(at).groupby([pandas.Grouper(key="at", freq="6h"), "g"])["n"].sum(),
     ),
+    "quantiles of groups": (
+        lambda at: frame(at).dropna().groupby("g")["at"].apply(lambda group: group.quantile(0.25)).astype("moment"),
+        lambda at: frame(at.dt.tz_localize(None)).dropna().groupby("g")["at"].quantile(0.25),
+    ),
     "the greatest": (lambda at: at.sort_values(ascending=False, kind="stable").dropna().head(5), lambda at: at.nlargest(5)),
     "the least": (lambda at: at.sort_values(kind="stable").dropna().head(5), lambda at: at.nsmallest(5)),
+    "the hours of a zone": (
+        lambda at: at.moment.to_zone("America/New_York").moment.hour,
+        lambda at: at.dt.tz_convert(zoneinfo.ZoneInfo("America/New_York")).dt.hour,
+    ),
     "the year of an index": (lambda at: pandas.Index(utc_of(at)).moment.year, lambda at: pandas.Index(at).year),
     "the ISO week of an index": (
         lambda at: pandas.Index(utc_of(at)).moment.isocalendar(),
@@ -247,21 +317,6 @@ RULED_OUT = {
         "ambiguous argument types|No matching signature",
         lambda at: merge_asof(in_order(at), in_order(at)[::2], on="at"),
     ),
-    "groupby rank": (
-        lambda at: frame(at).groupby("g")["at"].rank(),
-        "rank is not supported",
-        lambda at: frame(at).groupby("g")["at"].transform(lambda group: group.rank()),
-    ),
-    "groupby cummax": (
-        lambda at: frame(at).groupby("g")["at"].cummax(),
-        "cummax is not supported",
-        lambda at: frame(at).groupby("g")["at"].transform(lambda group: group.cummax()),
-    ),
-    "groupby cummin": (
-        lambda at: frame(at).groupby("g")["at"].cummin(),
-        "cummin is not supported",
-        lambda at: frame(at).groupby("g")["at"].transform(lambda group: group.cummin()),
-    ),
     "nlargest": (
         lambda at: at.dropna().nlargest(3),
         "Cannot use method 'nlargest'",
@@ -335,8 +390,9 @@ class Calls(unittest.TestCase):
         self.compare(NEAR, is_near)
 
     def test_own(self):
-        self.compare({name: calls for name, calls in OWN.items() if name != "describe"})
-        self.compare({"describe": OWN["describe"]}, is_near)
+        near = ("describe", "quantiles of groups")
+        self.compare({name: calls for name, calls in OWN.items() if name not in near})
+        self.compare({name: OWN[name] for name in near}, is_near)
 
     def test_by_clocks(self):
         for name, (call, wanted_call) in BY_CLOCKS.items():
@@ -531,6 +587,15 @@ class Others(unittest.TestCase):
         self.assertIs(self.at[1:2].median(), pandas.NA)
         self.assertIs(self.at[1:2].std(), pandas.NaT)
         self.assertRaisesRegex(TypeError, "has no sum", self.at.sum)
+
+    def test_rows_that_are_added(self):
+        """pandas makes objects of a column in which a row is put by a new label, and keeps what it puts together."""
+        table, at = pandas.DataFrame({"at": self.at, "n": 1}), OffsetDateTime(2024, 1, 1)
+        more = pandas.DataFrame({"at": [at], "n": [2]}, index=[9]).astype({"at": "moment"})
+        self.assertEqual(pandas.concat([table, more]).dtypes["at"], "moment")
+        table.loc[9] = [at, 2]
+        self.assertEqual(table.dtypes["at"], object)
+        self.assertTrue(table.astype({"at": "moment"}).equals(pandas.concat([table[:3], more]).astype({"at": "moment"})))
 
     def test_to_sql(self):
         """The texts of a column go into SQLite, and come back, with no adapter."""

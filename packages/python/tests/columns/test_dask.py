@@ -8,6 +8,7 @@ import pandas
 from dask.dataframe.dispatch import hash_object_dispatch
 
 import muxandu.dask  # noqa: F401
+from muxandu import Zone
 from muxandu.pandas import from_texts
 
 TEXTS = ["2024-02-29T00:00:00.9Z", "2024-02-29T01:00:00.1+01:00", None, "0001-01-01T00:00:00Z"]
@@ -30,6 +31,8 @@ class Tables(unittest.TestCase):
     def test_names_of_columns_and_of_an_index(self):
         self.same(lambda table: table)
         self.same(lambda table: table.assign(hour=table["at"].moment.floor("hour"), second=table["at"].moment.second))
+        zone = Zone.from_rule("CET-1CEST,M3.5.0,M10.5.0/3")
+        self.same(lambda table: table.assign(at=table["at"].moment.to_zone(zone)))
         self.same(lambda table: table.dropna().set_index("at"))
         self.same(lambda table: table.dropna().set_index("at").reset_index())
         self.same(lambda table: table.dropna().set_index("at")["size"].reset_index())

@@ -21,12 +21,15 @@ from muxandu import (
     RefusedDayOfMonth,
     RefusedMonth,
     RefusedNanosecond,
+    RefusedOffsetSeconds,
     RefusedResult,
     RefusedSyntax,
     RefusedTimestamp,
     Timestamp,
     Unit,
     UtcDateTime,
+    Zone,
+    ZoneNameError,
 )
 from muxandu.columns import NO_SECOND
 from muxandu.pandas import ROW, MomentArray
@@ -60,6 +63,42 @@ class Columns(unittest.TestCase):
             at.moment.minutes
         with self.assertRaises(AttributeError):
             pandas.Series([1]).moment
+
+    def test_clocks_of_a_zone(self):
+        berlin = Zone.from_rule("CET-1CEST,M3.5.0,M10.5.0/3")
+        at = moments("2024-03-31T00:59:59.9Z", None, "2024-03-31T01:00:00Z", "2024-10-27T03:00:00+02:00", "0001-01-01T00:00:00Z")
+        shown = at.moment.to_zone(berlin)
+        self.assertEqual(shown.moment.offset_seconds.tolist(), [3_600, pandas.NA, 7_200, 3_600, 3_600])
+        self.assertEqual(shown.moment.hour.tolist(), [1, pandas.NA, 3, 2, 1])
+        self.assertTrue((shown == at).dropna().all() and shown.isna().equals(at.isna()))
+        self.assertEqual(at.iloc[:0].moment.to_zone(berlin).tolist(), [])
+        self.assertEqual(pandas.Index(at[:3]).moment.to_zone(berlin).moment.hour.tolist(), [1, pandas.NA, 3])
+        self.assertEqual(at.iloc[1:2].moment.to_zone(berlin).tolist(), [pandas.NA])
+        late = pandas.Series([pandas.NA, at[0], OffsetDateTime(999_999, 12, 31, 23)], dtype="moment")
+        with self.assertRaises(RefusedResult) as caught:
+            late.moment.to_zone(Zone.from_rule("XXX-14"))
+        self.assertEqual(caught.exception.count, 2)
+        for column in (at, at.dropna()):
+            self.assertRaises(ZoneNameError, column.moment.to_zone, "../x")
+
+    def test_an_offset_for_each_row(self):
+        at = moments()
+        moved = at.moment.to_offset([3_600, 60, -60, 0, 93_599])
+        self.assertEqual(moved.moment.offset_seconds.tolist(), [3_600, pandas.NA, -60, 0, 93_599])
+        self.assertEqual((moved == at).tolist(), [True, pandas.NA, True, True, True])
+        self.assertTrue(at.moment.to_utc().moment.to_offset(at.moment.offset_seconds).equals(at))
+        one_is_missing = at.moment.to_offset(pandas.array([0, 0, None, 0, 0], "Int64"))
+        self.assertEqual(one_is_missing.isna().tolist(), [False, True, True, False, False])
+        for offset in (93_600, -(2**40)):
+            with self.assertRaises(RefusedOffsetSeconds) as caught:
+                at.moment.to_offset([0, 0, 0, offset, 0])
+            self.assertEqual(caught.exception.count, 3)
+        with self.assertRaisesRegex(ValueError, "columns must have one length, not 5 and 1"):
+            at.moment.to_offset([0])
+        with self.assertRaises(RefusedResult) as caught:
+            pandas.Series([OffsetDateTime(2024, 1, 1), FAR]).astype("moment").moment.to_offset([3_600, -3_600])
+        self.assertEqual(caught.exception.count, 1)
+        self.assertRaises((TypeError, ValueError), at.moment.to_offset, ["UTC"] * 5)
 
     def test_units_and_months(self):
         at = moments(*TEXTS[:3])
@@ -199,7 +238,7 @@ class Columns(unittest.TestCase):
     def test_ends_of_columns(self):
         gaps, at = moments(None, None), moments("2024-01-01T00:00:00Z", None, "1970-01-01T00:00:00.5Z", "1970-01-01T00:00:00.25Z")
         for size in (1, 3, 131_072):
-            with mock.patch.object(muxandu.pandas, "_BLOCK", size):
+            with mock.patch.object(muxandu._moment_order, "_BLOCK", size):
                 self.assertEqual((at.min(), at.max()), (at.iloc[3], at.iloc[0]))
                 for end in ("min", "max"):
                     for column in (gaps, gaps[:0]):
@@ -215,6 +254,18 @@ class Columns(unittest.TestCase):
             for share in (0, 0.1, 0.3, 0.5, 0.75, 1):
                 found = at.quantile(share, interpolation=way).to_timestamp().as_nanoseconds()
                 self.assertAlmostEqual(found, instants.quantile(share, interpolation=way).value, delta=1_000)
+        # Lengths of more digits than a float has, and the offset of the row that is taken.
+        ends = [Timestamp(5).to_offset(60), Timestamp.from_nanoseconds(5 * 10**9 + 10**19 + 1_234_567).to_offset(-60)]
+        for way, share, wanted, offset in (
+            ("lower", 0.9, 0, 60),
+            ("higher", 0.1, 10**19 + 1_234_567, -60),
+            ("nearest", 0.6, 10**19 + 1_234_567, -60),
+            ("nearest", 0.4, 0, 60),
+            ("midpoint", 0.1, 5 * 10**18 + 617_283, 60),
+            ("linear", 0.25, 25 * 10**17 + 308_641, 60),
+        ):
+            found = pandas.Series(ends[::-1], dtype="moment").quantile(share, interpolation=way)
+            self.assertEqual(((found - ends[0]).whole_nanoseconds(), found.offset_seconds), (wanted, offset), (way, share))
         found = moments().quantile([0, 1])
         self.assertEqual((found.dtype, found.tolist()), ("moment", [moments().min(), moments().max()]))
         self.assertIs(moments(None).quantile(0.5), pandas.NA)
@@ -323,7 +374,7 @@ class Columns(unittest.TestCase):
         index.tz_convert.return_value.tz_localize.return_value = instants
         index.tz_localize.return_value = instants + numpy.array([7_200, 0, 3_208], "m8[s]")
         with mock.patch.object(pandas, "DatetimeIndex", return_value=index):
-            rows = muxandu.pandas._rows_of_zoned(None)
+            rows = muxandu._moment_rows._rows_of_zoned(None)
         at = pandas.Series(MomentArray(rows)).moment
         self.assertEqual(at.year.tolist(), [3_000, pandas.NA, 1_000])
         self.assertEqual(at.offset_seconds.tolist(), [7_200, pandas.NA, 3_208])
@@ -417,6 +468,20 @@ class BesidePandas(unittest.TestCase):
         self.assertRaises(KeyError, lambda: tables[0].sort_index().loc["later":])
         self.assertNotIn(later, tables[0].index)
         self.assertRaises(KeyError, lambda: tables[0].loc[later])
+        for text in self.TEXTS:
+            found, wanted = (table.loc[[text]].tolist() for table in tables)
+            self.assertEqual(found, wanted)
+            self.assertEqual(*(table.drop([text]).tolist() for table in tables))
+        once = [table[~table.index.duplicated()] for table in tables]
+        keys = [self.TEXTS[0], later, self.TEXTS[-1]]
+        self.assertEqual(*(table.reindex(keys).fillna(-1).tolist() for table in once))
+        self.assertEqual(once[0].reindex(once[1].index).tolist(), once[0].tolist())
+        self.assertEqual(once[0].reindex(["later", self.TEXTS[0], 5]).isna().tolist(), [True, True, True])
+        self.assertRaises(KeyError, lambda: once[0].loc[["later"]])
+        self.assertEqual(once[0].loc[[]].tolist(), [])
+        with self.assertRaisesRegex(ValueError, "has no offset"):
+            once[0].reindex(once[1].index.tz_localize(None))
+        self.assertEqual(pandas.Series([1, 2], ["a", self.TEXTS[0]]).reindex([self.TEXTS[0]]).tolist(), [2])
         self.assertIn(pandas.NA, pandas.Index(moments(None)))
         self.assertIn("a", pandas.Index(["a"]))
         self.assertEqual(pandas.Index(["a", self.TEXTS[0]]).get_loc(self.TEXTS[0]), 1)
@@ -493,6 +558,13 @@ class BesidePandas(unittest.TestCase):
             self.both(lambda column: column - item)
             self.both(lambda column: item - column)
         self.assertEqual((self.at[0] - self.at).tolist(), (self.instants[0] - self.instants).tolist())
+
+    def test_differences_from_an_instant(self):
+        """Of any type with an instant, on either side."""
+        first = pandas.Timestamp(self.TEXTS[0])
+        for item in (self.at[0].to_timestamp(), self.at[0].to_utc()):
+            self.assertEqual((self.at - item).tolist(), (self.instants - first).tolist())
+            self.assertEqual((item - self.at).tolist(), (first - self.instants).tolist())
         self.assertRaisesRegex(ValueError, "has no offset", lambda: self.at - datetime.datetime(2024, 1, 1))
 
     def test_gaps_are_filled(self):
@@ -514,6 +586,10 @@ class BesidePandas(unittest.TestCase):
         self.assertEqual(at.array.fillna(method="pad", limit=1).isna().tolist(), [True, False, False, True, False, False])
         self.assertRaises(ValueError, at.array.fillna)
         self.assertRaises(ValueError, at.array.fillna, self.at[0], "pad")
+        for column in (at, instants):
+            self.assertRaises(ValueError, column.interpolate)
+        with self.assertRaisesRegex(ValueError, "by pad .ffill. or backfill .bfill., not by 'linear'"):
+            at.array.fillna(method="linear")
 
     def test_numbers_of_instants(self):
         """By factorize, in the order of their first rows, with and without gaps."""
@@ -705,7 +781,8 @@ class Laws(unittest.TestCase):
                 rows[place] = row
                 self.assertTrue(column._reduce(name).is_same(Timestamp(*row[:2]).to_offset(60)), (name, place, row))
             rows[place] = (0, 10**9, 0)
-            for call in (lambda: column < epoch, lambda: column == column, lambda: column - epoch, lambda: column + Duration(1)):
+            pairs = (lambda: column < epoch, lambda: column == column, lambda: column - epoch, lambda: column + Duration(1))
+            for call in (*pairs, column.parts, lambda: column.to_offset(60)):
                 with self.assertRaises(RefusedNanosecond) as caught:
                     call()
                 self.assertEqual(caught.exception.count, place)

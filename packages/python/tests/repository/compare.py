@@ -4,7 +4,8 @@
     compare.py [COUNT [SEED]]
 
 The calls over many items go through the Python package that is installed, and the others through ctypes to the shared library
-that MUXANDU_LIBRARY names. The last line is 'N passed, M failed', a call or an item each.
+that MUXANDU_LIBRARY names. PYTHONPATH leads to muxandu_sys.py, which `make/bindings python` prints. The last line is 'N passed,
+M failed', a call or an item each.
 """
 
 import array

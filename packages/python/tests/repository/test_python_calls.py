@@ -19,10 +19,10 @@ NEEDED = (
     "make/declare_c.py",
     INTERFACE,
     "make/python_methods.py",
-    "packages/python/extension/calls.h",
+    "packages/python/extension/types.pyi",
     "packages/python/muxandu/_refusals.py",
     "make/python_batches.py",
-    *(f"packages/python/muxandu/{name}" for name in ("_batch.py", "_extension.pyi", "_texts.py", "columns.py")),
+    *(f"packages/python/muxandu/{name}" for name in ("_batch.py", "_texts.py", "columns.py")),
 )
 
 # Calls whose names say nothing of what they write: one over many items, and one over none.
@@ -74,7 +74,7 @@ class Tables(unittest.TestCase):
 
     def test_roles_say_what_a_call_writes(self):
         self.add_calls(CALLS)
-        self.assertEqual(self.run_tool("write"), (0, ""))
+        self.assertEqual(self.run_tool("build"), (0, ""))
         made = (self.root / "packages/python/extension/calls.h").read_text(encoding="utf-8")
         body = " ".join(made.partition("PyObject *seconds_in_order(")[2].partition("\n}")[0].split())
         for place, is_written in ((0, 0), (2, 1), (4, 1)):
@@ -83,7 +83,7 @@ class Tables(unittest.TestCase):
     def test_a_call_without_a_row_is_a_method_of_its_class(self):
         calls = self.add_calls({})
         self.add_calls({**CALLS, "muxandu_timestamp_mirror": calls["muxandu_timestamp_truncate"]})
-        self.assertEqual(self.run_tool("write"), (0, ""))
+        self.assertEqual(self.run_tool("build"), (0, ""))
         stub = (self.root / "packages/python/muxandu/_extension.pyi").read_text(encoding="utf-8")
         lines = stub.partition("class _CallsOfTimestamp:")[2].partition("\n\n")[0]
         self.assertIn("    @classmethod\n    def day_of_luck(cls: type[_S]) -> _S: ...", lines)
@@ -117,16 +117,27 @@ class Tables(unittest.TestCase):
         self.assertIn("def days_from_dates(dates: Numbers, out: Optional[Out] = None) -> DatesOr[Out]:", made)
 
     def test_the_room_of_a_text_is_that_of_its_contract(self):
+        self.assertEqual(self.run_tool("build"), (0, ""))
         made = (self.root / "packages/python/extension/calls.h").read_text(encoding="utf-8")
         for name, room in (("date_time_text", 42), ("status_name", 15), ("date_to_rfc3339", 10)):
             body = made.partition(f"PyObject *{name}(")[2].partition("\n}")[0]
             self.assertIn(f"char text[{room}];", body)
 
     def test_what_is_stale_is_named(self):
-        self.change("make/python_methods.py", "The milliseconds from 1970-01-01 0:00 UTC, rounded down.", "Others.")
+        self.change("make/python_batches.py", "The date-time of each moment, at its own offset", "Others")
         status, said = self.run_tool("compare")
         self.assertEqual(status, 1)
-        self.assertIn("extension/calls.h", said)
+        self.assertIn("muxandu/columns.py", said)
+
+    def test_a_build_writes_in_another_folder(self):
+        place = self.root / "copy"
+        shutil.copytree(self.root / "packages/python", place)
+        ended = subprocess.run([sys.executable, self.root / NEEDED[0], "build", place], check=False)
+        self.assertEqual(ended.returncode, 0)
+        stub = (place / "muxandu/_extension.pyi").read_text(encoding="utf-8")
+        self.assertIn("class Timestamp(_CallsOfTimestamp, _Ordered[_Moment]):", stub)
+        self.assertTrue((place / "extension/calls.h").is_file())
+        self.assertFalse((self.root / "packages/python/extension/calls.h").exists())
 
 
 if __name__ == "__main__":

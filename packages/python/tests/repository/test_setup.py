@@ -1,6 +1,6 @@
 """What packages/python/setup.py makes: the wheel, the source archive, and the extension by the words of CC.
 
-MUXANDU_DIST names a folder that ./build-library has laid out, unless dist/ of the repository is one.
+MUXANDU_ARCHIVE names the archive of the library. Without it the extensions are compiled of muxandu.c.
 """
 
 import os
@@ -15,7 +15,7 @@ import zipfile
 from pathlib import Path
 
 SOURCES = Path(__file__).resolve().parents[2]
-DIST = Path(os.environ.get("MUXANDU_DIST", SOURCES.parents[1] / "dist"))
+ARCHIVE = os.environ.get("MUXANDU_ARCHIVE", "")
 LICENCES = {"LICENSE-APACHE", "LICENSE-MIT"}
 EXTENSION = "muxandu/_extension.abi3.so"
 
@@ -27,18 +27,20 @@ exec "$@"
 
 
 class Folder(unittest.TestCase):
-    """A folder for each test, and in it a copy of the sources."""
+    """A folder for each test, and in it a copy of the sources, which has the library as a source archive has it."""
 
     def setUp(self):
         self.folder = Path(tempfile.mkdtemp())
         self.addCleanup(shutil.rmtree, self.folder)
         self.sources = self.folder / "sources"
         shutil.copytree(SOURCES, self.sources, ignore=shutil.ignore_patterns("*.so", "__pycache__", "*.egg-info"))
+        subprocess.run([SOURCES.parents[1] / "make" / "python_calls", "build", self.sources], check=True)
+        subprocess.run([SOURCES.parents[1] / "make" / "one_c_file", self.sources / "library"], check=True)
 
     def setup(self, *words, sources=None, **variables):
         """What a command of setup.py does, with plain flags."""
         kept = {name: value for name, value in os.environ.items() if not name.startswith("MUXANDU") and name != "CC"}
-        given = {"MUXANDU_DIST": str(DIST), "SOURCE_DATE_EPOCH": "1700000000", "CFLAGS": "-O0", **variables}
+        given = {"MUXANDU_ARCHIVE": ARCHIVE, "SOURCE_DATE_EPOCH": "1700000000", "CFLAGS": "-O0", **variables}
         command = [sys.executable, "-B", "setup.py", "-q", *words]
         return subprocess.run(
             command, cwd=sources or self.sources, env={**kept, **given}, capture_output=True, encoding="utf-8", check=False
@@ -54,6 +56,14 @@ class Folder(unittest.TestCase):
 
     def wheel(self, **variables):
         return self.made("bdist_wheel", MUXANDU_EXTENSION="must", **variables)
+
+
+class Calls(Folder):
+    def test_a_folder_without_the_calls_says_how_they_are_made(self):
+        (self.sources / "extension" / "calls.h").unlink()
+        ended = self.setup("build")
+        self.assertEqual(ended.returncode, 1)
+        self.assertIn(f"run make/python_calls build {self.sources}", ended.stderr)
 
 
 class Archives(Folder):
@@ -77,24 +87,35 @@ class Archives(Folder):
             self.assertIn(f"\n{name}: {fields[field]}\n", metadata)
         self.assertIn("\nLicense: MIT OR Apache-2.0\n", metadata)
         self.assertIn((SOURCES / "README.md").read_text(encoding="utf-8").strip(), metadata)
-        modules = {f"muxandu/{path.name}" for path in (SOURCES / "muxandu").iterdir() if path.suffix in (".py", ".pyi", ".typed")}
+        modules = {
+            f"muxandu/{path.name}" for path in (self.sources / "muxandu").iterdir() if path.suffix in (".py", ".pyi", ".typed")
+        }
         self.assertEqual({name for name in names if not name.startswith(info)}, {*modules, EXTENSION})
 
     def test_two_builds_are_the_same_bytes(self):
         self.assertEqual(self.wheel().read_bytes(), self.wheel().read_bytes())
 
-    def test_the_source_archive_says_what_is_compiled(self):
+    def test_the_source_archive_has_the_library_as_a_file_of_c(self):
         path = self.made("sdist")
         place = self.folder / "unpacked"
         with tarfile.open(path) as archive:
             archive.extractall(place)
         (inside,) = place.iterdir()
-        said = (inside / "dist" / "COMPILED").read_text(encoding="utf-8")
-        self.assertRegex(said, r"^Compiled for \w+ Linux, from the sources of muxandu [\d.]+:\n[0-9a-f]{64}  lib/libmuxandu.a\n")
-        needed = {"pyproject.toml", "setup.py", "extension/extension.c", "extension/calls.h", "extension/module.h", *LICENCES}
+        self.assertEqual(list(inside.rglob("*.a")), [])
+        needed = {
+            "library/muxandu.c",
+            "library/muxandu.h",
+            "library/muxandu_time.h",
+            "pyproject.toml",
+            "setup.py",
+            "extension/extension.c",
+            "extension/calls.h",
+            "extension/module.h",
+            *LICENCES,
+        }
         for name in needed | {"muxandu/py.typed", "muxandu/_extension.pyi", "tests/test_laws.py"}:
             self.assertTrue((inside / name).is_file(), name)
-        ended = self.setup("build", "--build-lib", str(self.folder / "lib"), sources=inside, MUXANDU_DIST="")
+        ended = self.setup("build", "--build-lib", str(self.folder / "lib"), sources=inside, MUXANDU_ARCHIVE="")
         self.assertEqual(ended.returncode, 0, ended.stderr)
         self.assertTrue((self.folder / "lib" / EXTENSION).is_file())
 
@@ -134,12 +155,17 @@ class Extensions(Folder):
             self.assertIn(words.split()[0], ended.stderr)
 
     def test_a_lost_archive_is_named(self):
-        ended, _ = self.built(MUXANDU_DIST="/nowhere")
+        ended, _ = self.built(MUXANDU_ARCHIVE="/nowhere")
         self.assertEqual(ended.returncode, 1)
-        wanted = (
-            "muxandu: cannot find /nowhere/lib/libmuxandu.a: run ./build-library, or set MUXANDU_DIST to the folder that it wrote"
-        )
+        wanted = "muxandu: cannot find /nowhere, which MUXANDU_ARCHIVE names: run ./build-library, or leave the variable out"
         self.assertEqual(ended.stderr.strip(), wanted)
+
+    def test_a_copy_without_the_library_says_what_it_lacks(self):
+        shutil.rmtree(self.sources / "library")
+        ended, path = self.built(MUXANDU_ARCHIVE="")
+        self.assertEqual((ended.returncode, path.is_file()), (1, False))
+        wanted = "library/muxandu.c: take the whole source archive, or a clone of the repository"
+        self.assertIn(f"muxandu: cannot find {self.sources.resolve()}/{wanted}", ended.stderr)
 
 
 if __name__ == "__main__":

@@ -6,7 +6,7 @@ from typing import List, Optional, Tuple
 
 import muxandu
 from muxandu import columns
-from muxandu import Date, Duration, OffsetDateTime, PlainDateTime, Time, Timestamp, Unit, UtcDateTime, UtcOffset
+from muxandu import Date, Duration, OffsetDateTime, PlainDateTime, Time, Timestamp, Unit, UtcDateTime, UtcOffset, Zone
 
 at: Timestamp = Timestamp.from_rfc3339("2024-02-29T12:34:56Z") + timedelta(days=1)
 later: Timestamp = Duration(1) + at
@@ -54,6 +54,15 @@ hour_long: Duration = Duration(hours=1, minutes=UtcOffset.UTC)
 ends: Tuple[OffsetDateTime, OffsetDateTime] = (OffsetDateTime.MIN, OffsetDateTime.MAX)
 week: int = Date.today().to_iso_week_date().week
 python_moment: datetime = shown.to_datetime()
+berlin: Zone = Zone.from_rule("CET-1CEST,M3.5.0,M10.5.0/3")
+in_berlin: OffsetDateTime = at.to_zone(berlin).to_utc().to_zone("Europe/Berlin").to_zone(Zone.local())
+local_times: muxandu.LocalTimes = berlin.instants_of(plain)
+of_wall: Tuple[OffsetDateTime, ...] = local_times.times + (plain.at_zone(berlin), plain.at_zone("Europe/Berlin", "later"))
+skipped: Optional[PlainDateTime] = local_times.gap and local_times.gap.end
+change: Optional[muxandu.Transition] = berlin.next_transition(at) or berlin.previous_transition(shown)
+offset_there: UtcOffset = change.after.offset if change and change.after.is_daylight else berlin.offset_at(utc)
+told_of_zone: Tuple[Optional[str], Optional[str], Optional[str]] = (berlin.name, berlin.source, berlin.version)
+row_there: columns.MomentParts = columns.moments_to_zone(rows, berlin)[0]
 
 
 def matched(value: OffsetDateTime) -> int:
@@ -74,6 +83,15 @@ class Stamp(Timestamp):
 mine: Stamp = Stamp.now() + Duration(1)
 
 Timestamp("5")  # wrong
+at.to_zone(3_600)  # wrong
+plain.to_zone(berlin)  # wrong
+plain.at_zone(berlin, "never")  # wrong
+berlin.offset_at(5)  # wrong
+berlin.instants_of(at)  # wrong
+berlin.name = "Europe/Berlin"  # wrong
+Zone(b"Europe/Berlin")  # wrong
+change.after  # wrong
+columns.moments_to_zone(rows, 3_600)  # wrong
 Timestamp(0.5)  # wrong
 Timestamp.from_rfc3339(5)  # wrong
 at + 1  # wrong

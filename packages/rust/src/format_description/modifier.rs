@@ -117,6 +117,10 @@ macro_rules! modifiers {
 
             impl $Name {
                 /// Returns the modifiers of a description without modifiers.
+                ///
+                #[doc = concat!("```\nuse muxandu::format_description::modifier::", stringify!($Name), ";\n\n")]
+                #[doc = concat!("const PLAIN: ", stringify!($Name), " = ", stringify!($Name), "::default();\n")]
+                #[doc = concat!("assert_eq!(PLAIN, <", stringify!($Name), " as Default>::default());\n```")]
                 #[must_use]
                 #[allow(clippy::should_implement_trait)]
                 pub const fn default() -> $Name {
@@ -125,6 +129,11 @@ macro_rules! modifiers {
 
                 $(
                     /// The same with this modifier.
+                    ///
+                    #[doc = concat!("```\nuse muxandu::format_description::modifier::*;\n\n")]
+                    #[doc = concat!("let value = ", stringify!($value), ";\n")]
+                    #[doc = concat!("let part = ", stringify!($Name), "::default().", stringify!($with), "(value);\n")]
+                    #[doc = concat!("assert_eq!(part.", stringify!($field), ", value);\n```")]
                     #[must_use]
                     pub const fn $with(self, $field: $Type) -> $Name {
                         $Name { $field, ..self }
@@ -257,6 +266,14 @@ pub struct Ignore {
 
 impl Ignore {
     /// Returns the component that ignores a number of bytes.
+    ///
+    /// ```
+    /// use core::num::NonZeroU16;
+    /// use muxandu::format_description::modifier::Ignore;
+    ///
+    /// let four = Ignore::count(NonZeroU16::new(4).unwrap());
+    /// assert_eq!(four.count.get(), 4);
+    /// ```
     #[must_use]
     pub const fn count(count: NonZeroU16) -> Ignore {
         Ignore { count }

@@ -1,6 +1,7 @@
 //! Descriptions from their texts: the proved function reads them, and what it reads becomes items
 //! here.
 
+use alloc::boxed::Box;
 use alloc::string::String;
 use alloc::vec;
 use alloc::vec::Vec;
@@ -10,9 +11,9 @@ use crate::error::InvalidFormatDescription;
 use crate::proved::format_descriptions as proved;
 use proved::{DescriptionFault, DescriptionRefusal, DescriptionVersion, Item};
 
-/// The bytes from a place up to another.
-const fn between(text: &[u8], start: usize, end: usize) -> &[u8] {
-    text.split_at(end).0.split_at(start).1
+/// The items from a place up to another.
+const fn between<T>(all: &[T], start: usize, end: usize) -> &[T] {
+    all.split_at(end).0.split_at(start).1
 }
 
 /// The place after the next `]`.
@@ -34,6 +35,17 @@ const fn is_escape(version: DescriptionVersion, byte: u8) -> bool {
 /// Whether an item is the head of a group.
 const fn is_head(item: Item) -> bool {
     matches!(item, Item::Optional(_) | Item::First(_) | Item::Or(_))
+}
+
+/// The place after white space.
+const fn after_space(text: &[u8], place: usize) -> usize {
+    text.len() - text.split_at(place).1.trim_ascii_start().len()
+}
+
+/// The place in the first description of a group, whose `[` is at a place.
+const fn in_group(text: &[u8], place: usize) -> usize {
+    let name_end = word_end(text, after_space(text, place + 1));
+    after_space(text, name_end) + 1
 }
 
 /// The items of a description, with one literal for each run of bytes: the next one, and where the
@@ -79,54 +91,164 @@ const fn version_of(version: usize) -> DescriptionVersion {
     }
 }
 
-/// The items of a text at compile time, and how many the description has, for
-/// `format_description!`.
-#[doc(hidden)]
-#[must_use]
-pub const fn constant<const ROOM: usize>(
-    version: usize,
-    text: &'static str,
-) -> ([BorrowedFormatItem<'static>; ROOM], usize) {
-    let version = version_of(version);
-    let mut room = [Item::Byte(0); ROOM];
-    let read = match proved::parse_description(version, text.as_bytes(), &mut room) {
-        Ok(count) => count,
-        Err(refusal) => fail(text.as_bytes(), refusal),
-    };
-    let (items, _) = room.split_at(read);
-    let mut at = 0;
-    while at < read {
-        assert!(
-            !is_head(items[at]),
-            "`optional` and `first` are for `parse_owned`: this macro has no room for their items"
-        );
-        at += 1;
-    }
-    let mut found = [BorrowedFormatItem::Literal(&[]); ROOM];
-    let mut count = 0;
-    let mut runs = Runs { version, text: text.as_bytes(), place: 0, at: 0 };
-    while runs.at < read {
-        let (item, after) = runs.next(items);
-        found[count] = item;
-        count += 1;
-        runs = after;
-    }
-    (found, count)
+/// Items side by side: where the first is, and how many there are.
+#[derive(Clone, Copy)]
+struct Span {
+    start: usize,
+    count: usize,
 }
 
-/// The first of these items.
-#[doc(hidden)]
-#[must_use]
-pub const fn front<const COUNT: usize, const ROOM: usize>(
-    items: [BorrowedFormatItem<'static>; ROOM],
-) -> [BorrowedFormatItem<'static>; COUNT] {
-    let mut front = [BorrowedFormatItem::Literal(&[]); COUNT];
-    let mut at = 0;
-    while at < COUNT {
-        front[at] = items[at];
-        at += 1;
+impl Span {
+    const fn of<T>(self, all: &[T]) -> &[T] {
+        between(all, self.start, self.start + self.count)
     }
-    front
+}
+
+/// An item before it can refer to others: those of a group are named by their places.
+#[derive(Clone, Copy)]
+enum Slot<'a> {
+    Item(BorrowedFormatItem<'a>),
+    Compound(Span),
+    Optional(Span),
+    First(Span),
+}
+
+/// The items of a description, those of each group side by side and before those that hold the
+/// group. Items that are not settled yet are the last ones of `open`.
+struct Layout<'a, 'r> {
+    items: &'r [Item],
+    slots: &'r mut [Slot<'a>],
+    open: &'r mut [Slot<'a>],
+    settled: usize,
+    height: usize,
+}
+
+impl<'a> Layout<'a, '_> {
+    const fn push(&mut self, slot: Slot<'a>) {
+        self.open[self.height] = slot;
+        self.height += 1;
+    }
+
+    /// Settles what is open above a height.
+    const fn settle(&mut self, height: usize) -> Span {
+        let span = Span { start: self.settled, count: self.height - height };
+        while self.settled < span.start + span.count {
+            self.slots[self.settled] = self.open[height + self.settled - span.start];
+            self.settled += 1;
+        }
+        self.height = height;
+        span
+    }
+
+    /// The items up to the end of a group, or of the description.
+    const fn items(&mut self, mut runs: Runs<'a>, end: usize) -> (Span, Runs<'a>) {
+        let height = self.height;
+        while runs.at < end {
+            let slot;
+            (slot, runs) = if is_head(self.items[runs.at]) {
+                self.group(runs, end)
+            } else {
+                let (item, after) = runs.next(self.items.split_at(end).0);
+                (Slot::Item(item), after)
+            };
+            self.push(slot);
+        }
+        (self.settle(height), runs)
+    }
+
+    /// The group whose head comes next.
+    const fn group(&mut self, mut runs: Runs<'a>, end: usize) -> (Slot<'a>, Runs<'a>) {
+        let height = self.height;
+        let is_optional = matches!(self.items[runs.at], Item::Optional(_));
+        runs.place = in_group(runs.text, runs.place);
+        while let Item::Optional(size) | Item::First(size) | Item::Or(size) = self.items[runs.at] {
+            let last = runs.at + 1 + size;
+            let span;
+            runs.at += 1;
+            (span, runs) = self.items(runs, last);
+            self.push(Slot::Compound(span));
+            runs.place = after_space(runs.text, runs.place + 1) + 1;
+            if runs.at == end || !matches!(self.items[runs.at], Item::Or(_)) {
+                break;
+            }
+        }
+        let span = self.settle(height);
+        (if is_optional { Slot::Optional(span) } else { Slot::First(span) }, runs)
+    }
+}
+
+/// Lays out the items of a description in the slots, and says which are in no group. There are at
+/// most as many as the text has bytes.
+const fn lay_out<'a>(
+    version: DescriptionVersion,
+    text: &'a [u8],
+    items: &[Item],
+    slots: &mut [Slot<'a>],
+    open: &mut [Slot<'a>],
+) -> Span {
+    let runs = Runs { version, text, place: 0, at: 0 };
+    let mut layout = Layout { items, slots, open, settled: 0, height: 0 };
+    layout.items(runs, items.len()).0
+}
+
+const NO_SLOT: Slot<'_> = Slot::Compound(Span { start: 0, count: 0 });
+
+/// A description that `format_description!` has read.
+#[doc(hidden)]
+pub struct Laid<const ROOM: usize> {
+    slots: [Slot<'static>; ROOM],
+    span: Span,
+}
+
+impl<const ROOM: usize> Laid<ROOM> {
+    /// The description of a text, at compile time.
+    #[must_use]
+    pub const fn new(version: usize, text: &'static str) -> Self {
+        let (version, text) = (version_of(version), text.as_bytes());
+        let mut room = [Item::Byte(0); ROOM];
+        let read = match proved::parse_description(version, text, &mut room) {
+            Ok(count) => count,
+            Err(refusal) => fail(text, refusal),
+        };
+        let (mut slots, mut open) = ([NO_SLOT; ROOM], [NO_SLOT; ROOM]);
+        let span = lay_out(version, text, room.split_at(read).0, &mut slots, &mut open);
+        Self { slots, span }
+    }
+
+    /// How many items there are, with those of groups.
+    #[must_use]
+    pub const fn count(&self) -> usize {
+        self.span.start + self.span.count
+    }
+
+    /// The items, which refer to others at the address where they will be.
+    #[must_use]
+    pub const fn items<const COUNT: usize>(
+        &self,
+        address: &'static [BorrowedFormatItem<'static>; COUNT],
+    ) -> [BorrowedFormatItem<'static>; COUNT] {
+        let mut items = [BorrowedFormatItem::Literal(&[]); COUNT];
+        let mut at = 0;
+        while at < COUNT {
+            items[at] = match self.slots[at] {
+                Slot::Item(item) => item,
+                Slot::Compound(span) => BorrowedFormatItem::Compound(span.of(address)),
+                Slot::Optional(span) => BorrowedFormatItem::Optional(&address[span.start]),
+                Slot::First(span) => BorrowedFormatItem::First(span.of(address)),
+            };
+            at += 1;
+        }
+        items
+    }
+
+    /// The items that are in no group.
+    #[must_use]
+    pub const fn description(
+        &self,
+        items: &'static [BorrowedFormatItem<'static>],
+    ) -> &'static [BorrowedFormatItem<'static>] {
+        self.span.of(items)
+    }
 }
 
 /// The message of a fault, before its word, and whether it has one.
@@ -291,6 +413,15 @@ pub fn parse(text: &str) -> Result<Vec<BorrowedFormatItem<'_>>, InvalidFormatDes
 
 /// The items of a description, in version 1 or 2 of the language.
 ///
+/// ```
+/// use muxandu::format_description::parse_borrowed;
+/// use muxandu::macros::date;
+///
+/// let description = parse_borrowed::<2>(r"\[[year]-[month]\]")?;
+/// assert_eq!(date!(2024-02-09).format(&description)?, "[2024-02]");
+/// # Ok::<(), muxandu::Error>(())
+/// ```
+///
 /// # Errors
 ///
 /// As [`parse`].
@@ -304,65 +435,20 @@ pub fn parse_borrowed<const VERSION: usize>(
     read(const { version_of(VERSION) }, text)
 }
 
-/// The place after white space.
-fn after_space(text: &[u8], place: usize) -> usize {
-    text.len() - text[place..].trim_ascii_start().len()
+/// The items of a description that are side by side.
+fn owned_items(slots: &[Slot<'_>], span: Span) -> Vec<OwnedFormatItem> {
+    span.of(slots).iter().map(|&slot| owned_item(slots, slot)).collect()
 }
 
-/// The place in the first description of a group, whose `[` is at a place.
-fn in_group(text: &[u8], place: usize) -> usize {
-    let name_end = word_end(text, after_space(text, place + 1));
-    after_space(text, name_end) + 1
-}
-
-/// The items up to the end of a group, or of the description.
-fn owned_items<'a>(
-    mut runs: Runs<'a>,
-    items: &[Item],
-    end: usize,
-) -> (Vec<OwnedFormatItem>, Runs<'a>) {
-    let mut found = Vec::new();
-    while runs.at < end {
-        if is_head(items[runs.at]) {
-            runs.place = in_group(runs.text, runs.place);
-            let group;
-            (group, runs) = owned_group(runs, items, end);
-            found.push(group);
-        } else {
-            let (item, after) = runs.next(items);
-            found.push(OwnedFormatItem::from(&item));
-            runs = after;
+fn owned_item(slots: &[Slot<'_>], slot: Slot<'_>) -> OwnedFormatItem {
+    match slot {
+        Slot::Item(item) => item.into(),
+        Slot::Compound(span) => owned_items(slots, span).into(),
+        Slot::Optional(span) => {
+            OwnedFormatItem::Optional(Box::new(owned_item(slots, slots[span.start])))
         }
+        Slot::First(span) => OwnedFormatItem::First(owned_items(slots, span).into()),
     }
-    (found, runs)
-}
-
-/// The group whose head comes next, and whose first description begins at the place.
-fn owned_group<'a>(mut runs: Runs<'a>, items: &[Item], end: usize) -> (OwnedFormatItem, Runs<'a>) {
-    let is_optional = matches!(items[runs.at], Item::Optional(_));
-    let mut groups = Vec::new();
-    while let Some(Item::Optional(size) | Item::First(size) | Item::Or(size)) =
-        items[..end].get(runs.at).copied()
-    {
-        runs.at += 1;
-        let last = runs.at + size;
-        let group;
-        (group, runs) = owned_items(runs, items, last);
-        groups.push(OwnedFormatItem::Compound(group.into()));
-        runs.place = after_space(runs.text, runs.place + 1) + 1;
-        let is_next = matches!(items[..end].get(runs.at), Some(Item::Or(_)));
-        if !is_next {
-            break;
-        }
-    }
-    let group = match (is_optional, groups.pop()) {
-        (true, Some(item)) => OwnedFormatItem::Optional(item.into()),
-        (_, last) => {
-            groups.extend(last);
-            OwnedFormatItem::First(groups.into())
-        }
-    };
-    (group, runs)
 }
 
 /// A description that owns its items, in version 1 or 2 of the language. It may have items that a
@@ -387,6 +473,7 @@ pub fn parse_owned<const VERSION: usize>(
 ) -> Result<OwnedFormatItem, InvalidFormatDescription> {
     let version = const { version_of(VERSION) };
     let items = items_of(version, text)?;
-    let runs = Runs { version, text: text.as_bytes(), place: 0, at: 0 };
-    Ok(owned_items(runs, &items, items.len()).0.into())
+    let (mut slots, mut open) = (vec![NO_SLOT; text.len()], vec![NO_SLOT; text.len()]);
+    let span = lay_out(version, text.as_bytes(), &items, &mut slots, &mut open);
+    Ok(owned_items(&slots, span).into())
 }

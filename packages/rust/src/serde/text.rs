@@ -42,4 +42,4 @@ pub fn deserialize<'de, T: FromStr<Err: Display>, D: Deserializer<'de>>(
     deserializer.deserialize_str(Read(PhantomData))
 }
 
-option! { "text", Display, FromStr<Err: Display> }
+__serde_option! { [T: Display] [T: FromStr<Err: Display>] T }

@@ -9,9 +9,10 @@ use crate::{OffsetDateTime, RangeResult, Timestamp, UtcDateTime};
 
 mod instants {
     use super::{OffsetDateTime, RangeResult, Timestamp, UtcDateTime};
+    use crate::serde::described::Described;
 
     /// The types with a Unix timestamp: `OffsetDateTime`, `UtcDateTime` and `Timestamp`.
-    pub trait Instant: Copy {
+    pub trait Instant: Described + Copy {
         /// The nanoseconds since the epoch.
         fn nanoseconds(self) -> i128;
 
@@ -44,7 +45,7 @@ mod instants {
     }
 }
 
-use instants::Instant;
+pub(super) use instants::Instant;
 
 /// The two functions for a unit of a number of nanoseconds, whose count has a type.
 macro_rules! functions {
@@ -78,7 +79,7 @@ macro_rules! functions {
 }
 
 functions! { i64, 1_000_000_000 }
-option! { "timestamp", Instant, Instant }
+__serde_option! { [T: Instant] [T: Instant] T }
 
 macro_rules! finer {
     ($($unit:ident: $module:literal, $nanoseconds:literal;)+) => {
@@ -88,7 +89,7 @@ macro_rules! finer {
                 use super::*;
 
                 functions! { i128, $nanoseconds }
-                option! { $module, Instant, Instant }
+                __serde_option! { [T: Instant] [T: Instant] T }
             }
         )+
     };

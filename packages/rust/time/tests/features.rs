@@ -4,8 +4,10 @@ use quickcheck::{Arbitrary, Gen, QuickCheck, Testable};
 use rand::distributions::{Distribution, Standard};
 use rand::rngs::SmallRng;
 use rand::{Rng, SeedableRng};
+use std::process::Command;
 use time::error::{DifferentVariant, IndeterminateOffset};
 use time::macros::{date, datetime, offset, time, timestamp};
+use time::zones::Zone;
 use time::{
     Date, Duration, Month, OffsetDateTime, PrimitiveDateTime, Time, Timestamp, UtcDateTime,
     UtcOffset, Weekday,
@@ -124,10 +126,50 @@ fn a_property_is_tested() {
 }
 
 #[test]
-fn the_offset_of_the_machine_is_not_known() {
-    assert_eq!(UtcOffset::current_local_offset(), Err(IndeterminateOffset));
-    assert_eq!(UtcOffset::local_offset_at(OffsetDateTime::UNIX_EPOCH), Err(IndeterminateOffset));
-    let error = time::Error::from(OffsetDateTime::now_local().unwrap_err());
+fn the_offset_of_the_machine_is_that_of_its_zone() {
+    let zone = Zone::local().unwrap();
+    for at in [OffsetDateTime::UNIX_EPOCH, datetime!(2024-07-01 12:00 -5)] {
+        assert_eq!(UtcOffset::local_offset_at(at), Ok(zone.offset_at(at)));
+    }
+    let now = OffsetDateTime::now_local().unwrap();
+    assert_eq!(UtcOffset::local_offset_at(now), Ok(now.offset()));
+    assert!((OffsetDateTime::now_utc() - now).whole_minutes() == 0);
+    assert!(UtcOffset::current_local_offset().is_ok());
+}
+
+/// What the machine's offset is with these variables, in a process of its own.
+fn told(tz: &str) -> String {
+    let mut run = Command::new(std::env::current_exe().unwrap());
+    run.args(["--exact", "tell_offsets", "--ignored", "--nocapture"]).env("TZ", tz);
+    let text = String::from_utf8(run.output().unwrap().stdout).unwrap();
+    let begin = text.find('[').expect(&text) + 1;
+    text[begin..begin + text[begin..].find(']').expect(&text)].into()
+}
+
+#[test]
+#[ignore = "another test runs it with variables of its own"]
+fn tell_offsets() {
+    let summer = UtcOffset::local_offset_at(datetime!(2024-07-01 12:00 UTC));
+    let winter = UtcOffset::local_offset_at(datetime!(2024-01-01 12:00 UTC));
+    // SAFETY: no other thread of this process reads or changes variables.
+    unsafe { std::env::set_var("TZ", "AAA-5") };
+    let now = OffsetDateTime::now_local().map(OffsetDateTime::offset);
+    let same = now == UtcOffset::current_local_offset();
+    println!("[{summer:?} {winter:?} {now:?} {same}]");
+}
+
+#[test]
+fn the_offset_of_the_machine_follows_its_variable() {
+    let berlin = "Ok(+02:00:00) Ok(+01:00:00) Ok(+05:00:00) true";
+    assert_eq!(told("CET-1CEST,M3.5.0,M10.5.0/3"), berlin);
+    assert_eq!(told(""), "Ok(+00:00:00) Ok(+00:00:00) Ok(+05:00:00) true");
+    let unknown = "Err(IndeterminateOffset) Err(IndeterminateOffset) Ok(+05:00:00) true";
+    assert_eq!((told("Nowhere/Here").as_str(), told("../UTC").as_str()), (unknown, unknown));
+}
+
+#[test]
+fn the_error_of_an_unknown_offset_is_one_of_the_crate() {
+    let error = time::Error::from(IndeterminateOffset);
     assert!(error.to_string().starts_with("the offset of the machine's clock is not known"));
     assert_eq!(IndeterminateOffset::try_from(error), Ok(IndeterminateOffset));
     let error = time::Error::from(IndeterminateOffset);

@@ -302,3 +302,60 @@ fn instants_at_the_ends_are_written() {
     let count = time::serde::timestamp::serialize(&first, serde_json::value::Serializer).unwrap();
     assert_eq!(count, first.unix_timestamp());
 }
+
+/// Fields by descriptions: as a text, as items of a constant, in version 2, and that may be missing.
+mod described {
+    use time::format_description::StaticFormatDescription;
+
+    pub const HOURS: StaticFormatDescription = time::macros::format_description!("[hour]:[minute]");
+
+    time::serde::format_description!(pub mod day_first, Date, "[day].[month].[year]");
+    time::serde::format_description!(pub mod hours, Time, HOURS);
+    time::serde::format_description!(pub mod bracketed, UtcOffset, version = 2, r"\[[offset_hour]\]");
+}
+
+#[derive(Serialize, Deserialize, PartialEq, Debug)]
+struct Described {
+    #[serde(with = "described::day_first")]
+    date: Date,
+    #[serde(with = "described::hours")]
+    time: Time,
+    #[serde(with = "described::bracketed::option", default)]
+    offset: Option<UtcOffset>,
+}
+
+#[test]
+fn fields_have_the_form_of_a_description() {
+    let value =
+        Described { date: date!(2024 - 02 - 29), time: time!(12:34), offset: Some(offset!(-5)) };
+    let json = r#"{"date":"29.02.2024","time":"12:34","offset":"[-05]"}"#;
+    assert_eq!(serde_json::to_string(&value).unwrap(), json);
+    assert_eq!(serde_json::from_str::<Described>(json).unwrap(), value);
+    let read = serde_json::from_str::<Described>(r#"{"date":"29.02.2024","time":"12:34"}"#);
+    assert_eq!(read.unwrap().offset, None);
+    let said = |json: &str| serde_json::from_str::<Described>(json).unwrap_err().to_string();
+    assert!(said(&json.replace("29", "x9")).contains("the component day cannot be read"));
+    assert!(said(&json.replace("\"12:34\"", "5")).contains("expected a text by the description"));
+}
+
+#[derive(Serialize, Deserialize, PartialEq, Debug)]
+struct Iso8601 {
+    #[serde(with = "time::serde::iso8601")]
+    at: OffsetDateTime,
+    #[serde(with = "time::serde::iso8601::option")]
+    end: Option<UtcDateTime>,
+}
+
+#[test]
+fn fields_have_the_form_of_iso_8601() {
+    let value =
+        Iso8601 { at: datetime!(2024-02-29 12:34 -5), end: Some(utc_datetime!(-1-01-01 0:00)) };
+    let json = r#"{"at":"+002024-02-29T12:34:00.000000000-05:00","end":"-000001-01-01T00:00:00.000000000Z"}"#;
+    assert_eq!(serde_json::to_string(&value).unwrap(), json);
+    assert_eq!(serde_json::from_str::<Iso8601>(json).unwrap(), value);
+    let week = r#"{"at":"2024-W09-4T1234-05","end":null}"#;
+    let read = serde_json::from_str::<Iso8601>(week).unwrap();
+    assert_eq!(read, Iso8601 { end: None, ..value });
+    let refused = serde_json::from_str::<Iso8601>(r#"{"at":5,"end":null}"#).unwrap_err();
+    assert!(refused.to_string().contains("expected a text of ISO 8601"));
+}

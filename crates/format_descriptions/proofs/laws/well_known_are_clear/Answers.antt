@@ -11,7 +11,6 @@ returns c = record {
   fixed = refl;
   fixed_at = refl;
   rfc2822 = refl;
-  rfc3339 = refl;
   iso8601 = refl;
   iso8601_date = refl;
   iso8601_time = refl;

@@ -3,6 +3,7 @@ use Rattle.format_descriptions.specs.Groups.{size_of, is_other}
 use Rattle.format_descriptions.specs.Read.{read_from, try_group, item_at}
 use Rattle.format_descriptions.proofs.ReadLemmas.{read_ends, read_none, read_on, read_stops, read_fault, read_fault_plain, read_passed}
 use Rattle.format_descriptions.proofs.ReadLemmas.{tried_first, tried_instead, group_read, group_fault, fault_after-within}
+use Rattle.format_descriptions.proofs.KeptPartLemmas.{all-known}
 use Rattle.format_descriptions.proofs.read.+front.Goals.{in-None+else-is_other, in-Some-fault-2+else-not-is_other, in-Ok, in-Err}
 use Rattle.format_descriptions.proofs.read.+front.Goals as goal
 
@@ -17,8 +18,8 @@ returns-in-Some-fault-clause-value t c =
     let plain : None ≡ size_of c.in-Some.item.now = search rules in
     sym (read_fault_plain c.in-Some.item.now _ _ _ _ _ _ _ _ _ front place c.in-Some-fault.is plain c.loop-item.invariant.same)
 
-pub returns-in_default-item_at-clause-value : goal.returns-in_default-item_at-clause-value
-returns-in_default-item_at-clause-value t c =
+pub returns-in_default-group_item_at-clause-value : goal.returns-in_default-group_item_at-clause-value
+returns-in_default-group_item_at-clause-value t c =
     let front : c.loop-item.items.now ≡ c.in-Some.item.now ∷ c.in-Some.others.now = search rules in
     let place : c.loop-item.count ≡ suc (c.loop-item.count - 1) = omega (arith, c.if-count-eq0.false) in
     let plain : None ≡ size_of c.in-Some.item.now = search rules in
@@ -30,14 +31,15 @@ loop-item-preserved-in_default-size_of t c =
     let front : c.loop-item.items.now ≡ c.in-Some.item.now ∷ c.in-Some.others.now = search rules in
     let place : c.loop-item.count ≡ suc (c.loop-item.count - 1) = omega (arith, c.if-count-eq0.false) in
     let plain : None ≡ size_of c.in-Some.item.now = search rules in
-    let is : Some (c.item_at.new.parts, c.in-Some-item_at.more.now) ≡ item_at c.in-Some.item.now c.loop-item.rest.now c.loop-item.parts =
+    let is : Some (c.group_item_at.new.parts, c.in-Some-group_item_at.more.now) ≡ item_at c.in-Some.item.now c.loop-item.rest.now c.loop-item.parts =
     search rules
     in
     record {
       same =
           rw c.in_default-fault.is
           (read_on c.in-Some.item.now _ _ _ _ _ _ _ _ _ _ front place c.in_default-fault.is plain is c.loop-item.invariant.same);
-      shorter = omega (arith, c.in-Some-item_at.ensures.shorter, c.loop-item.invariant.shorter);
+      kept = λ old h. c.in-Some-group_item_at.ensures.kept old (c.loop-item.invariant.kept old h);
+      shorter = omega (arith, c.in-Some-group_item_at.ensures.shorter, c.loop-item.invariant.shorter);
       left = c.loop-item.invariant.left;
       fewer = search rules;
     }
@@ -52,6 +54,7 @@ loop-item-preserved-then-is_other t c =
       same =
           rw (c.behind-items.ensures.items, c.saturating_sub-count.ensures, c.in-None.is)
           (read_passed c.in-Some.item.now _ _ _ _ _ _ _ _ _ front place c.in-None.is head other c.loop-item.invariant.same);
+      kept = c.loop-item.invariant.kept;
       shorter = c.loop-item.invariant.shorter;
       left = c.loop-item.invariant.left;
       fewer = search rules;
@@ -101,6 +104,7 @@ loop-item-preserved-then-fails_at_once t c =
             c.fault_after-fault.ensures,
           )
           (group_fault c.in-Some.item.now _ _ _ _ _ _ _ _ is group);
+      kept = c.loop-item.invariant.kept;
       shorter = c.loop-item.invariant.shorter;
       left =
           rw c.fault_after-fault.ensures
@@ -141,6 +145,7 @@ loop-item-preserved t c =
             same =
                 rw (c.behind-items-in-Some.ensures.items, c.saturating_sub-count-in-Some.ensures, w.fault-is, w.rest-is, w.parts-is)
                 (group_read c.in-Some.item.now _ _ _ _ _ _ _ _ _ is group);
+            kept = λ old h. rw w.parts-is (w.in-Ok.ensures.kept old (c.loop-item.invariant.kept old h));
             shorter = search rules;
             left = search rules;
             fewer = search rules;
@@ -150,6 +155,9 @@ loop-item-preserved t c =
           (min c.in-Some-size_of.size (c.loop-item.count - 1)) None c.loop-item.rest.now c.loop-item.parts =
           search rules
           in
+          let back : w.restore.new.parts ≡ c.loop-item.parts =
+          w.restore.ensures ∙ rw c.keep-before.ensures (w.in-Err.ensures.kept c.loop-item.parts (all-known c.loop-item.parts))
+          in
           record {
             same =
                 rw (
@@ -158,9 +166,11 @@ loop-item-preserved t c =
                   w.fault-is,
                   w.rest-is,
                   w.parts-is,
+                  back,
                   w.fault_after-fault-in-Err.ensures,
                 )
                 (group_fault c.in-Some.item.now _ _ _ _ _ _ _ _ is group);
+            kept = λ old h. rw (w.parts-is, back) (c.loop-item.invariant.kept old h);
             shorter = search rules;
             left =
                 rw w.fault-is

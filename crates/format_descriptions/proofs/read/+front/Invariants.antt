@@ -1,4 +1,5 @@
 use Rattle.std.proofs.Common.{◌≡◌, ◌≤◌, length, None, IfSome}
+use Rattle.format_descriptions.specs.KeptParts.{Keeps}
 use Rattle.format_descriptions.specs.Read.{read_from}
 use Rattle.format_descriptions.proofs.read.+front.Given as goal
 
@@ -9,6 +10,7 @@ decreases-front l = length l.items.now
 abbrev pub invariant-loop-item : goal.invariant-loop-item
 invariant-loop-item l = record {
   same : read_from l.items 0 l.count l.fault l.rest l.parts ≡ read_from l.fn.items 0 l.fn.count None l.fn.text l.fn.parts;
+  kept : Keeps l.fn.parts l.parts;
   shorter : length l.rest ≤ length l.fn.text;
   left : IfSome l.fault (λ left. left ≤ length l.fn.text);
   fewer : length l.items ≤ length l.fn.items;

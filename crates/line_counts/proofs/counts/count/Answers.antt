@@ -1,6 +1,6 @@
 use Rattle.std.proofs.Common.{arith, refl, [], ◌++◌, take, length-append}
 use Rattle.std.proofs.lemmas.Result.{err_from_is_err_and}
-use Rattle.line_counts.proofs.TurnLemmas.{GoesOn-first, block_falls, block_taken, finishes, read_fails, reads_end, some_count}
+use Rattle.line_counts.proofs.TurnLemmas.{GoesOn-first, block_falls, block_taken, end_falls, input_ends, read_fails, reads_end, some_count}
 use Rattle.line_counts.proofs.counts.count.Goals as goal
 
 pub reads-init : goal.reads-init
@@ -27,13 +27,22 @@ returns-then-count-eq0 g c =
     let so_far = c.reads.invariant in
     let none = rw c.if-count-eq0.true at c.in-Ok.ensures.consumed.0 in
     let end = c.in-Ok.ensures.consumed.1 c.if-count-eq0.true (rw c.read_some.auto.buffer so_far.1.block) in
-    finishes (g.B.Buckets.counting c.args.buckets.now) c.args.is_strict _ _ _ c.reads.pending c.reads.work so_far.0 c.finish.result so_far.1.goes_on none
-    end c.finish.ensures.completes
-    c.finish.ensures.ends c.in-Ok.ensures.mark c.finish.ensures.mark
+    input_ends (g.B.Buckets.counting c.args.buckets.now) c.args.is_strict _ _ _ c.reads.pending c.reads.work so_far.0 c.finish.new.work.tally
+    so_far.1.goes_on none end (c.in_ok-finish.ensures.completes refl _ so_far.0 so_far.1.goes_on.stands) c.in-Ok.ensures.mark c.in_ok-finish.ensures.mark
+
+pub returns-in_err-finish : goal.returns-in_err-finish
+returns-in_err-finish g c =
+    let p = err_from_is_err_and c.from_residual.result c.from_residual.ensures.1 in
+    let so_far = c.reads.invariant in
+    let none = rw c.if-count-eq0.true at c.in-Ok.ensures.consumed.0 in
+    let end = c.in-Ok.ensures.consumed.1 c.if-count-eq0.true (rw c.read_some.auto.buffer so_far.1.block) in
+    rw (p.1, p.2)
+    (end_falls (g.B.Buckets.counting c.args.buckets.now) c.args.is_strict _ _ _ c.reads.pending c.reads.work so_far.0 _ so_far.1.goes_on none end
+    (c.in_err-finish.ensures.ends _ so_far.0 so_far.1.goes_on.stands) c.in-Ok.ensures.mark c.in_err-finish.ensures.mark)
 
 pub returns-in_err-feed : goal.returns-in_err-feed
 returns-in_err-feed g c =
-    let p = err_from_is_err_and c.from_residual.result c.from_residual.ensures.1 in
+    let p = err_from_is_err_and c.from_residual-in_err-feed.result c.from_residual-in_err-feed.ensures.1 in
     let so_far = c.reads.invariant in
     rw (p.1, p.2)
     (block_falls (g.B.Buckets.counting c.args.buckets.now) c.args.is_strict _ _ _ c.reads.pending c.reads.work so_far.0 _ _ so_far.1.goes_on

@@ -2,4 +2,4 @@ use Rattle.line_counts.proofs.SumLemmas.{counts-add_up}
 use Rattle.line_counts.proofs.laws.counts_add_up.Goals as goal
 
 pub returns : goal.returns
-returns c = counts-add_up
+returns g c = counts-add_up

@@ -2,7 +2,7 @@ use Rattle.std.proofs.Common.{arith, ◌∙◌, ◌++◌, take}
 use Rattle.std.proofs.lemmas.Result.{err_from_is_err_and}
 use Rattle.std.proofs.lemmas.List.{take_all, length-drop}
 use Rattle.line_counts.proofs.BlockLemmas.{between-end, front_joined, rest_joined}
-use Rattle.line_counts.proofs.StandLemmas.{stands_cut}
+use Rattle.line_counts.proofs.StandLemmas.{stands_cut, stands_flushed}
 use Rattle.line_counts.proofs.lines.feed.Goals as goal
 
 pub lines-preserved : goal.lines-preserved
@@ -30,3 +30,9 @@ returns-in_err-flush-clause-ends g c =
     rw (p.1, p.2) (λ base taken more h.
     stands_cut (g.B.Buckets.counting c.args.buckets.now) c.args.is_strict base _ _ c.lines.pending c.lines.work (taken ++ c.args.block.now) more
     (rw (take_all c.lines.place c.args.block.now (omega arith)) at (c.lines.invariant.stands base taken h)) c.in_err-flush.ensures.written)
+
+pub returns-clause-stands : goal.returns-clause-stands
+returns-clause-stands g c = λ ok base taken h.
+    rw c.in_ok-flush.ensures.empty
+    (stands_flushed (g.B.Buckets.counting c.args.buckets.now) c.args.is_strict base _ _ c.lines.pending c.lines.work (taken ++ c.args.block.now)
+    (rw (take_all c.lines.place c.args.block.now (omega arith)) at (c.lines.invariant.stands base taken h)) c.in_ok-flush.ensures.written)

@@ -23,7 +23,7 @@ returns-in_err-flush-clause-ends g c =
     c.in_ok-send_last.ensures.sent c.in_err-flush.ensures.written)
 
 pub returns-clause-completes : goal.returns-clause-completes
-returns-clause-completes g c = λ base taken h.
+returns-clause-completes g c = λ ok base taken h.
     completes (g.B.Buckets.counting c.args.buckets.now) c.args.is_strict base _ _ _ c.take_rest.new.pending c.send_last.new.pending _ taken
     (c.in_ok-take_rest.ensures.sent refl base taken h)
     c.in_ok-send_last.ensures.sent c.in_ok-flush.ensures.written

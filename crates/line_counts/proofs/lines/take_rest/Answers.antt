@@ -11,14 +11,17 @@ pub returns-in_err-take_line-clause-ends : goal.returns-in_err-take_line-clause-
 returns-in_err-take_line-clause-ends g c =
     let p = err_from_is_err_and c.from_residual.result c.from_residual.ensures.1 in
     rw (p.1, p.2) (λ base taken h.
-    last_falls (g.B.Buckets.counting c.args.buckets.now) c.args.is_strict base _ _ c.args.pending.now c.args.work.now taken _ (g.met.B.Buckets.by_head
-    c.args.buckets.now) h
+    last_falls (g.B.Buckets.counting c.args.buckets.now) c.args.is_strict base _ _ c.args.pending.now c.args.work.now taken _ (
+      g.met.B.Buckets.by_head
+          c.args.buckets.now,
+      g.met.B.Buckets.remembers_head c.args.buckets.now,
+    ) h
     (not_empty c.is_empty.result c.args.work.now.head c.is_empty.ensures c.if-is_empty.false)
     (rw c.items.ensures.value at c.in_err-take_line.ensures.takes))
 
 pub returns-clause-sent : goal.returns-clause-sent
 returns-clause-sent g c = λ ok base taken h.
     all_counted (g.B.Buckets.counting c.args.buckets.now) c.args.is_strict base _ _ c.args.pending.now c.take_line.new.pending c.args.work.now _ taken
-    (g.met.B.Buckets.by_head c.args.buckets.now) h
+    (g.met.B.Buckets.by_head c.args.buckets.now, g.met.B.Buckets.remembers_head c.args.buckets.now) h
     (not_empty c.is_empty.result c.args.work.now.head c.is_empty.ensures c.if-is_empty.false)
     (rw c.items.ensures.value at c.in_ok-take_line.ensures.takes)

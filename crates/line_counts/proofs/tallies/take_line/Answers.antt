@@ -2,7 +2,6 @@ use Rattle.std.proofs.Common.{Ok, ap, sym}
 use Rattle.std.proofs.lemmas.Result.{err_from_is_err_and}
 use Rattle.line_devices.specs.WritingLemmas.{Appends-flushed, AppendsBeginning-flushed}
 use Rattle.line_counts.proofs.TakeLemmas.{falls_at, line_at_fault, line_passed, no_fault}
-use Rattle.line_counts.specs.declared.tallies.Tally.{Tally}
 use Rattle.line_counts.proofs.tallies.take_line.Goals as goal
 
 pub returns-in_err-send_last-clause-takes : goal.returns-in_err-send_last-clause-takes
@@ -40,4 +39,4 @@ returns-clause-takes g c =
     let line = line_passed (g.B.Buckets.counting c.args.buckets.now) c.args.is_strict c.args.tally.now c.note.new.tally c.args.line.now
     c.instant_of-own.result c.bucket_at-bucket.result c.instant_of-own.ensures c.note.ensures c.bucket_at-bucket.ensures
     (no_fault _ _ c.fault_of.ensures c.in_default.not-Some) in
-    rw line (c.in_ok-send_by.ensures.sent, ap (λ (z : Tally). Ok z) (sym c.tally_by-after.ensures))
+    rw line (c.in_ok-send_by.ensures.sent, ap Ok (sym c.pass_line.ensures))

@@ -13,4 +13,4 @@ invariant-reads g l =
     (devices (left l.reader) (written l.writer) (read_failed l.reader) (write_failed l.writer)) l.fn.pending l.pending
 
 abbrev pub decreases-reads : goal.decreases-reads
-decreases-reads g l = cond l.front.is_ended 0 (1028 - length l.front.buffer)
+decreases-reads g l = cond l.front.is_ended 0 (65537 - length l.front.buffer)

@@ -1,4 +1,4 @@
-use Rattle.std.proofs.Common.{length, sym, ◌∙◌, ap}
+use Rattle.std.proofs.Common.{length, refl, sym, ◌∙◌, ap}
 use Rattle.line_merges.proofs.RunLemmas.{finds_cut, no_back_line, some_back_line}
 use Rattle.line_merges.proofs.StepLemmas.{find_back, find_cut, find_stands, find_stop_cut}
 use Rattle.line_merges.proofs.StateLemmas.{states-at, states-past, states-set, states-set_other}
@@ -20,7 +20,7 @@ returns-in_ok-flush-in-Some-clause-others g c = states-set_other g.R.Source.left
 
 pub returns-in-Err-clause-finds : goal.returns-in-Err-clause-finds
 returns-in-Err-clause-finds g c = λ first before is_open.
-    let instant = g.I.Instants.instant c.args.instants.now in
+    let instant = g.I.Instants.reading c.args.instants.now in
     let is_strict = c.args.is_strict in
     let left = g.R.Source.left in
     let marked = g.R.Source.is_marked in
@@ -36,7 +36,7 @@ returns-in-Err-clause-finds g c = λ first before is_open.
 
 pub returns-in_err-flush-in-Some-clause-finds : goal.returns-in_err-flush-in-Some-clause-finds
 returns-in_err-flush-in-Some-clause-finds g c = λ first before is_open.
-    let instant = g.I.Instants.instant c.args.instants.now in
+    let instant = g.I.Instants.reading c.args.instants.now in
     let is_strict = c.args.is_strict in
     let left = g.R.Source.left in
     let marked = g.R.Source.is_marked in
@@ -56,7 +56,7 @@ returns-in_err-flush-in-Some-clause-finds g c = λ first before is_open.
 
 pub returns-in-None-clause-finds : goal.returns-in-None-clause-finds
 returns-in-None-clause-finds g c = λ first before is_open.
-    let instant = g.I.Instants.instant c.args.instants.now in
+    let instant = g.I.Instants.reading c.args.instants.now in
     let is_strict = c.args.is_strict in
     let left = g.R.Source.left in
     let marked = g.R.Source.is_marked in
@@ -68,14 +68,14 @@ returns-in-None-clause-finds g c = λ first before is_open.
           (states-at left marked logs c.args.k c.index-logs-k.result c.requires)
           (states-set left marked logs c.args.k _ c.requires) (states-set_other left marked logs c.args.k _) here.0 here.1.consumed (λ e. (here.1.ended e).0)
           (output (g.W.Sink.written c.find_next.new.writer) (g.W.Sink.is_marked c.find_next.new.writer)) c.find_next.new.pending here.2.0 here.2.1.write
-          here.2.1.read here.1.added here.1.place
+          here.2.1.read here.1.added here.1.place refl
           (λ e. ((here.1.ended e).1, (here.1.ended e).2)) here.1.end,
       rw (states-set left marked logs c.args.k _ c.requires) (here.2.2, no_back_line is_strict c.find_next.new.front (sym c.back_line.ensures ∙ c.in-None.is)),
     )
 
 pub returns-in_ok-flush-in-Some-clause-finds : goal.returns-in_ok-flush-in-Some-clause-finds
 returns-in_ok-flush-in-Some-clause-finds g c = λ first before is_open stands.
-    let instant = g.I.Instants.instant c.args.instants.now in
+    let instant = g.I.Instants.reading c.args.instants.now in
     let is_strict = c.args.is_strict in
     let left = g.R.Source.left in
     let marked = g.R.Source.is_marked in
@@ -88,7 +88,7 @@ returns-in_ok-flush-in-Some-clause-finds g c = λ first before is_open stands.
     (states-at left marked logs c.args.k c.index-logs-k.result c.requires)
     (states-set left marked logs c.args.k _ c.requires) (states-set_other left marked logs c.args.k _) here.0 here.1.consumed (λ e. (here.1.ended e).0)
     (output (g.W.Sink.written c.find_next.new.writer) (g.W.Sink.is_marked c.find_next.new.writer)) c.find_next.new.pending here.2.0 here.2.1.write
-    here.2.1.read here.1.added here.1.place
+    here.2.1.read here.1.added here.1.place refl
     (λ e. ((here.1.ended e).1, (here.1.ended e).2)) here.1.end
     (output (g.W.Sink.written c.flush.new.writer) (g.W.Sink.is_marked c.flush.new.writer)) c.in-Some.number back.strict here.2.2 back.line back.earlier
     back.number_is

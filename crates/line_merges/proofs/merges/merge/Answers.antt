@@ -8,7 +8,7 @@ use Rattle.line_merges.proofs.merges.merge.Goals as goal
 
 pub firsts-init : goal.firsts-init
 firsts-init g c =
-    let instant = g.I.Instants.instant c.args.instants.now in
+    let instant = g.I.Instants.reading c.args.instants.now in
     let is_strict = c.args.is_strict in
     let left = g.R.Source.left in
     let marked = g.R.Source.is_marked in
@@ -22,7 +22,7 @@ firsts-init g c =
 
 pub firsts-preserved : goal.firsts-preserved
 firsts-preserved g c =
-    let instant = g.I.Instants.instant c.args.instants.now in
+    let instant = g.I.Instants.reading c.args.instants.now in
     let is_strict = c.args.is_strict in
     let left = g.R.Source.left in
     let marked = g.R.Source.is_marked in
@@ -38,7 +38,7 @@ firsts-preserved g c =
 
 pub lines-init : goal.lines-init
 lines-init g c =
-    let instant = g.I.Instants.instant c.args.instants.now in
+    let instant = g.I.Instants.reading c.args.instants.now in
     let is_strict = c.args.is_strict in
     let left = g.R.Source.left in
     let marked = g.R.Source.is_marked in
@@ -56,7 +56,7 @@ lines-init g c =
 
 pub lines-preserved : goal.lines-preserved
 lines-preserved g c =
-    let instant = g.I.Instants.instant c.args.instants.now in
+    let instant = g.I.Instants.reading c.args.instants.now in
     let is_strict = c.args.is_strict in
     let left = g.R.Source.left in
     let marked = g.R.Source.is_marked in
@@ -66,7 +66,7 @@ lines-preserved g c =
     let so = c.lines.invariant in
     let logs = c.lines.logs in
     let next = IsNext-same (log_fronts logs) (fronts_of (states logs)) c.in-Some.next (fronts-states left marked logs) c.in-Some.ensures.next in
-    let sent = c.in_ok-is_ended.ensures.sends instant is_strict first before so.1.known next so.0 in
+    let sent = c.in_ok-is_ended.ensures.sends is_strict first before so.1.known next so.0 in
     let found = c.in_ok-find-2.ensures.finds first before (not c.in_ok-is_ended.is_ended) in
     let stands = found.0 sent.0 in (
       stands.0,
@@ -79,7 +79,7 @@ lines-preserved g c =
 
 pub returns-in_err-find : goal.returns-in_err-find
 returns-in_err-find g c =
-    let instant = g.I.Instants.instant c.args.instants.now in
+    let instant = g.I.Instants.reading c.args.instants.now in
     let is_strict = c.args.is_strict in
     let left = g.R.Source.left in
     let marked = g.R.Source.is_marked in
@@ -91,7 +91,7 @@ returns-in_err-find g c =
 
 pub returns-in_err-flush : goal.returns-in_err-flush
 returns-in_err-flush g c =
-    let instant = g.I.Instants.instant c.args.instants.now in
+    let instant = g.I.Instants.reading c.args.instants.now in
     let is_strict = c.args.is_strict in
     let left = g.R.Source.left in
     let marked = g.R.Source.is_marked in
@@ -106,7 +106,7 @@ returns-in_err-flush g c =
 
 pub returns-in_default : goal.returns-in_default
 returns-in_default g c =
-    let instant = g.I.Instants.instant c.args.instants.now in
+    let instant = g.I.Instants.reading c.args.instants.now in
     let is_strict = c.args.is_strict in
     let left = g.R.Source.left in
     let marked = g.R.Source.is_marked in
@@ -121,7 +121,7 @@ returns-in_default g c =
 
 pub returns-in_err-is_ended : goal.returns-in_err-is_ended
 returns-in_err-is_ended g c =
-    let instant = g.I.Instants.instant c.args.instants.now in
+    let instant = g.I.Instants.reading c.args.instants.now in
     let is_strict = c.args.is_strict in
     let left = g.R.Source.left in
     let marked = g.R.Source.is_marked in
@@ -132,11 +132,11 @@ returns-in_err-is_ended g c =
     let logs = c.lines.logs in
     let next = IsNext-same (log_fronts logs) (fronts_of (states logs)) c.in-Some.next (fronts-states left marked logs) c.in-Some.ensures.next in
     ends_cut c.from_residual-in_err-is_ended.result _ instant is_strict first _ before _ c.from_residual-in_err-is_ended.ensures.1
-    (c.in_err-is_ended.ensures.sends instant is_strict first before so.1.known next so.0)
+    (c.in_err-is_ended.ensures.sends is_strict first before so.1.known next so.0)
 
 pub returns-in_err-find-2 : goal.returns-in_err-find-2
 returns-in_err-find-2 g c =
-    let instant = g.I.Instants.instant c.args.instants.now in
+    let instant = g.I.Instants.reading c.args.instants.now in
     let is_strict = c.args.is_strict in
     let left = g.R.Source.left in
     let marked = g.R.Source.is_marked in
@@ -146,13 +146,13 @@ returns-in_err-find-2 g c =
     let so = c.lines.invariant in
     let logs = c.lines.logs in
     let next = IsNext-same (log_fronts logs) (fronts_of (states logs)) c.in-Some.next (fronts-states left marked logs) c.in-Some.ensures.next in
-    let sent = c.in_ok-is_ended.ensures.sends instant is_strict first before so.1.known next so.0 in
+    let sent = c.in_ok-is_ended.ensures.sends is_strict first before so.1.known next so.0 in
     ends_cut c.from_residual-in_err-find-2.result _ instant is_strict first _ before _ c.from_residual-in_err-find-2.ensures.1
     (c.in_err-find-2.ensures.finds first before (not c.in_ok-is_ended.is_ended) sent.0)
 
 pub returns-in_err-flush-2 : goal.returns-in_err-flush-2
 returns-in_err-flush-2 g c =
-    let instant = g.I.Instants.instant c.args.instants.now in
+    let instant = g.I.Instants.reading c.args.instants.now in
     let is_strict = c.args.is_strict in
     let left = g.R.Source.left in
     let marked = g.R.Source.is_marked in
@@ -167,7 +167,7 @@ returns-in_err-flush-2 g c =
 
 pub returns : goal.returns
 returns g c =
-    let instant = g.I.Instants.instant c.args.instants.now in
+    let instant = g.I.Instants.reading c.args.instants.now in
     let is_strict = c.args.is_strict in
     let left = g.R.Source.left in
     let marked = g.R.Source.is_marked in

@@ -11,4 +11,4 @@ returns-then-any_at t c =
 pub returns-else-any_at : goal.returns-else-any_at
 returns-else-any_at t c =
     read_here c.args.place c.args.forms c.args.line.now c.any_at.result (omega (arith, c.if-forms-eq0.false)) c.any_at.ensures c.if-any_at.false
-    ∙ ap (λ (z : Bool). any_reads (c.args.place * 42) c.args.line.now || z) (sym c.reads.ensures)
+    ∙ ap (λ (z : Bool). any_reads (c.args.place * 42) c.args.line.now || z) (sym c.reads_behind.ensures)

@@ -16,6 +16,7 @@ use Rattle.format_descriptions.specs.Values.{date_of_parts, day_in_year, iso_day
 use Rattle.format_descriptions.specs.Values.{wrong_week, wrong_year, year_day}
 use Rattle.format_descriptions.specs.Written.{hour_12, period_text}
 use Rattle.log_forms.specs.Ends.{is_apart}
+use Rattle.log_forms.specs.Fronts.{last_word}
 use Rattle.log_forms.specs.Instants.{instant_of_parts, with_year}
 use Rattle.log_forms.specs.Json.{member_at, value_of}
 use Rattle.log_forms.specs.Marks.{bytes_at, past_blanks}
@@ -38,7 +39,7 @@ unfolding day_of_ordinal days_from_1970 days_in_months days_of_years days_until_
     counted_at decimal_at digits_on four_at fraction_at letter_at month_at more_at past_digits period_at sign_at signed_century_at signed_hours_at
     signed_year_at six_at three_at three_digits_at two_at unix_at weekday_at weekday_number_at word_at year_since_at date_of_parts day_in_year iso_day
     month_day week_day week_ordinal wrong_date wrong_day wrong_week wrong_year year_day hour_12 period_text is_apart instant_of_parts
-    with_year member_at value_of bytes_at past_blanks behind_text field_at text_at stamp_at instant_of digit_at digits_at mark_at two_digits_at
+    with_year member_at value_of bytes_at past_blanks behind_text field_at text_at last_word stamp_at instant_of digit_at digits_at mark_at two_digits_at
     year_at instant_or_refusal
 returns c Rfc3339 = refl
 returns c Rfc3339Comma = refl

@@ -1,4 +1,4 @@
-use Rattle.std.proofs.Common.{rules, ◌≡◌, ◌≤◌, length, refl, arith}
+use Rattle.std.proofs.Common.{rules, ◌≡◌, ◌≤◌, length, refl}
 use Rattle.muxandu_c.specs.Batches.{status_of_items}
 use Rattle.muxandu_c.specs.Descriptions.{item_or_refused}
 use Rattle.muxandu_c.proofs.DescriptionLemmas.{items_of-refused, size_of-read, room-read}

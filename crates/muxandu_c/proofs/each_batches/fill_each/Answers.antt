@@ -1,4 +1,4 @@
-use Rattle.std.proofs.Common.{rules, arith, subst, ◌≡◌, ◌++◌, ℕ, length, drop}
+use Rattle.std.proofs.Common.{rules, arith, subst, refl, ◌≡◌, ◌++◌, ℕ, length, drop}
 use Rattle.muxandu_c.specs.EachBatches.{status_of_each}
 use Rattle.muxandu_c.proofs.BatchLemmas.{front-behind}
 use Rattle.muxandu_c.proofs.EachBatchLemmas.{written_each-more, status_of_each-more, count_of_values-more}
@@ -18,8 +18,8 @@ loop-k-preserved g c =
     let converted = c.convert-answer.ensures in
     record {
       written =
-          written_each-more value_of items c.loop-k.k _ x c.loop-k.out _ c.index-out-k.result c.value_or.result answer _ low (search rules) item converted
-          c.index-out-k.is c.value_or.ensures before.written;
+          written_each-more value_of items c.loop-k.k _ x c.loop-k.out c.index-out-k.result _ c.put_value.new.there answer _ low (search rules) item converted
+          refl c.put_value.ensures before.written;
       statuses =
           status_of_each-more value_of items c.loop-k.k _ x c.loop-k.statuses c.status_of.result answer _ low (search rules) item converted
           c.status_of.ensures before.statuses;

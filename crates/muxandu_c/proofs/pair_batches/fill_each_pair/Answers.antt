@@ -24,8 +24,8 @@ loop-k-preserved g c =
     of_pair-at f _ _ c.loop-k.k _ _ _ _ _ test low_second c.index-firsts-k.is c.index-seconds-k.is c.pair-answer.ensures in
     record {
       written =
-          written_each-more (of_pair f) pairs c.loop-k.k _ _ c.loop-k.out _ c.index-out-k.result c.value_or.result answer _ low (search rules) refl paired
-          c.index-out-k.is c.value_or.ensures before.written;
+          written_each-more (of_pair f) pairs c.loop-k.k _ _ c.loop-k.out c.index-out-k.result _ c.put_value.new.there answer _ low (search rules) refl paired
+          refl c.put_value.ensures before.written;
       statuses =
           status_of_each-more (of_pair f) pairs c.loop-k.k _ _ c.loop-k.statuses c.status_of.result answer _ low (search rules) refl paired
           c.status_of.ensures before.statuses;

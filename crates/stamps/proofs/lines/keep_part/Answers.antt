@@ -10,9 +10,9 @@ pub returns-then-part-room-clause-stands : goal.returns-then-part-room-clause-st
 returns-then-part-room-clause-stands g c = λ ok base taken k.
     let head = c.args.work.now.head in
     let part = c.args.part.now in
-    let short : length (head ++ part) < 1027 = omega (arith, c.room-room.ensures, c.if-part-room.true, length-append head part) in
+    let short : length (head ++ part) < 65536 = omega (arith, c.room-room.ensures, c.if-part-room.true, length-append head part) in
     inl (kept_more c.args.task.now base _ _ c.args.work.now _ taken part k c.requires refl k.progress
-    (c.push_front_of.ensures ∙ take_all 1027 (head ++ part) (omega (arith, short))) short)
+    (c.push_front_of.ensures ∙ take_all 65536 (head ++ part) (omega (arith, short))) short)
 
 pub returns-in_err-work-clause-ends : goal.returns-in_err-work-clause-ends
 returns-in_err-work-clause-ends g c =
@@ -23,7 +23,7 @@ returns-in_err-work-clause-ends g c =
     let low : room ≤ length part = omega (arith, c.if-part-room.false) in
     let line : c.items.result.now ≡ head ++ take room part = c.items.ensures.value ∙ c.push_front_of.ensures
     ∙ front_filled head part room c.room-room.ensures in
-    let long : 1027 ≤ length c.items.result.now = subst (λ (z : List ℕ). 1027 ≤ length z) (sym line) (long_enough head part room c.room-room.ensures low) in
+    let long : 65536 ≤ length c.items.result.now = subst (λ (z : List ℕ). 65536 ≤ length z) (sym line) (long_enough head part room c.room-room.ensures low) in
     let task = c.args.task.now in
     let items = c.items.result.now in
     rw (p.1, p.2) (λ base taken more k.
@@ -38,7 +38,7 @@ returns-clause-stands g c = λ ok base taken k.
     let low : room ≤ length part = omega (arith, c.if-part-room.false) in
     let line : c.items.result.now ≡ head ++ take room part = c.items.ensures.value ∙ c.push_front_of.ensures
     ∙ front_filled head part room c.room-room.ensures in
-    let long : 1027 ≤ length c.items.result.now = subst (λ (z : List ℕ). 1027 ≤ length z) (sym line) (long_enough head part room c.room-room.ensures low) in
+    let long : 65536 ≤ length c.items.result.now = subst (λ (z : List ℕ). 65536 ≤ length z) (sym line) (long_enough head part room c.room-room.ensures low) in
     let work : Work = record { state = c.begin.new.state; progress = c.in_ok-work.field-0; head = c.push_front_of.new.self } in
     fill_stands c.args.task.now base _ _ c.begin.new.pending _ work taken part room c.pass.result c.requires ok
     (rw c.rest_of.ensures at c.pass.ensures.passed)
@@ -53,7 +53,7 @@ returns-clause-ends g c =
     let low : room ≤ length part = omega (arith, c.if-part-room.false) in
     let line : c.items.result.now ≡ head ++ take room part = c.items.ensures.value ∙ c.push_front_of.ensures
     ∙ front_filled head part room c.room-room.ensures in
-    let long : 1027 ≤ length c.items.result.now = subst (λ (z : List ℕ). 1027 ≤ length z) (sym line) (long_enough head part room c.room-room.ensures low) in
+    let long : 65536 ≤ length c.items.result.now = subst (λ (z : List ℕ). 65536 ≤ length z) (sym line) (long_enough head part room c.room-room.ensures low) in
     let work : Work = record { state = c.begin.new.state; progress = c.in_ok-work.field-0; head = c.push_front_of.new.self } in
     let ends = fill_ends c.args.task.now _ _ c.begin.new.pending c.pass.new.pending work part room c.pass.result c.requires
     (rw c.rest_of.ensures at c.pass.ensures.passed) in

@@ -29,8 +29,8 @@ reads-init g c = (
   record {
     turns = omega arith;
     block = omega arith;
-    goes_on = GoesOn-first c.args.task.now _ c.new-pending.result c.new-work.result c.requires.reader c.requires.writer c.new-pending.ensures
-        c.new-work.ensures.state c.new-work.ensures.progress c.new-work.ensures.head;
+    goes_on = GoesOn-first c.args.task.now _ c.new-pending.result c.args.work.now c.requires.reader c.requires.writer c.new-pending.ensures
+        c.requires.state c.requires.progress c.requires.head;
   },
 )
 
@@ -55,7 +55,7 @@ returns-in_err-count g c =
     record {
       end = OnOk-fault _ _ c.from_residual.result made;
       written = OnOk-fault _ _ c.from_residual.result made;
-      well = OnOk-fault _ _ c.from_residual.result made;
+      state = OnOk-fault _ _ c.from_residual.result made;
       tally = IfOk-fault _ _ c.from_residual.result made;
       no_read_failed = OnOk-fault _ _ c.from_residual.result made;
       no_write_failed = OnOk-fault _ _ c.from_residual.result made;
@@ -77,7 +77,7 @@ returns-then-count-eq0 g c =
     record {
       end = all.none_left;
       written = all.written;
-      well = all.well;
+      state = all.end;
       tally = all.tally;
       no_read_failed = all.no_read_failed;
       no_write_failed = all.no_write_failed;
@@ -98,7 +98,7 @@ returns g c =
     record {
       end = tt;
       written = tt;
-      well = tt;
+      state = tt;
       tally = tt;
       no_read_failed = tt;
       no_write_failed = tt;

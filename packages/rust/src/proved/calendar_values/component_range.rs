@@ -133,6 +133,10 @@ impl ComponentRange {
     /// # }
     /// ```
     ///
+    /// # Panics
+    ///
+    /// The call breaks a `requires` of the contract.
+    ///
     /// # Contract
     ///
     /// ```text

@@ -128,8 +128,7 @@ impl SignedDuration {
     };
 
     /// The duration of seconds and nanoseconds together: `new(1, -1)` has 0 seconds and 999,999,999
-    /// nanoseconds. Their sum must be from `MIN` to `MAX`. The caller proves this; the `time` crate
-    /// panics.
+    /// nanoseconds. Their sum must be from `MIN` to `MAX`.
     ///
     /// ```
     /// # use muxandu::proved::*;
@@ -139,6 +138,10 @@ impl SignedDuration {
     /// # Ok(())
     /// # }
     /// ```
+    ///
+    /// # Panics
+    ///
+    /// The call breaks a `requires` of the contract.
     ///
     /// # Contract
     ///
@@ -215,6 +218,10 @@ impl SignedDuration {
     /// # }
     /// ```
     ///
+    /// # Panics
+    ///
+    /// The call breaks a `requires` of the contract.
+    ///
     /// # Contract
     ///
     /// ```text
@@ -240,6 +247,10 @@ impl SignedDuration {
     /// # Ok(())
     /// # }
     /// ```
+    ///
+    /// # Panics
+    ///
+    /// The call breaks a `requires` of the contract.
     ///
     /// # Contract
     ///
@@ -267,6 +278,10 @@ impl SignedDuration {
     /// # }
     /// ```
     ///
+    /// # Panics
+    ///
+    /// The call breaks a `requires` of the contract.
+    ///
     /// # Contract
     ///
     /// ```text
@@ -291,6 +306,10 @@ impl SignedDuration {
     /// # Ok(())
     /// # }
     /// ```
+    ///
+    /// # Panics
+    ///
+    /// The call breaks a `requires` of the contract.
     ///
     /// # Contract
     ///

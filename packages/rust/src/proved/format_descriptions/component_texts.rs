@@ -7,7 +7,7 @@ use crate::proved::calendar_values::Text;
 pub(crate) type Source = Result<usize, (ItemFault, usize)>;
 
 // The name of a component, and its modifiers.
-type Words = (
+pub(crate) type Words = (
     &'static [u8],
     &'static [u8],
     &'static [u8],
@@ -110,7 +110,7 @@ pub(crate) fn put_component(
 ///
 /// [docs/proofs/STATEMENT.md](crate::proved#contracts) explains the words.
 #[inline]
-const fn words_of(component: Component) -> Result<Words, ItemFault> {
+pub(crate) const fn words_of(component: Component) -> Result<Words, ItemFault> {
     match component {
         Component::Year(base, sign, padding, range) => Ok((
             b"[year",

@@ -34,8 +34,8 @@ impl Parts {
         named_plain(self)
     }
 
-    /// The date-time of these parts at its offset. Fails as `date` does, then as `time` does, and
-    /// then as `offset` does.
+    /// The date-time of these parts at its offset. It compares no count of a Unix timestamp, which
+    /// `timestamp` does. Fails as `date` does, then as `time` does, and then as `offset` does.
     ///
     /// ```
     /// # use muxandu::proved::*;

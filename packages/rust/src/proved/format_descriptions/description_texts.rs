@@ -1,6 +1,7 @@
 // Made by make/erase of crates/format_descriptions/src/description_texts.rt. Do not edit.
 //! Texts of descriptions, from their items.
 use crate::proved::format_descriptions::component_texts::{Source, put_component, put_piece};
+use crate::proved::format_descriptions::description_lengths::count_items;
 use crate::proved::format_descriptions::item::{behind, size_of};
 use crate::proved::format_descriptions::{DescriptionVersion, Item, ItemFault, ItemRefusal};
 
@@ -8,6 +9,7 @@ use crate::proved::format_descriptions::{DescriptionVersion, Item, ItemFault, It
 /// and no byte after it changes. `parse_description` reads it back as the same items.
 ///
 /// Else why the items have no text, and at which of them: the first fault, which `NoRoom` is too.
+/// After an error no byte of `room` is changed.
 ///
 /// ```
 /// # use muxandu::proved::*;
@@ -34,6 +36,7 @@ use crate::proved::format_descriptions::{DescriptionVersion, Item, ItemFault, It
 /// ensures refused { IfErr result (λ refusal. (left : ℕ) ×
 ///     (description_source version (length room.old) items.now ≡ Err (refusal.fault, left)) ×
 ///     (refusal.place ≡ length items.now - left)) }
+/// ensures unchanged { OnErr result (room.new ≡ room.old) }
 /// ```
 ///
 /// [docs/proofs/STATEMENT.md](crate::proved#contracts) explains the words.
@@ -43,8 +46,11 @@ pub fn write_description(
     items: &[Item],
     room: &mut [u8],
 ) -> Result<usize, ItemRefusal> {
-    match put_items(version, 0, items, items.len(), room, 0) {
-        Ok(used) => Ok(used),
+    match count_items(version, 0, items, items.len(), room.len(), 0) {
+        Ok(count) => {
+            let _text = put_items(version, 0, items, items.len(), room, 0);
+            Ok(count)
+        }
         Err(fault) => Err(refusal(items, fault)),
     }
 }
@@ -143,7 +149,7 @@ fn put_items(
 /// ```
 ///
 /// [docs/proofs/STATEMENT.md](crate::proved#contracts) explains the words.
-#[inline]
+#[inline(never)]
 fn put_item(
     version: DescriptionVersion,
     depth: u8,
@@ -178,7 +184,7 @@ fn put_item(
 /// ```
 ///
 /// [docs/proofs/STATEMENT.md](crate::proved#contracts) explains the words.
-#[inline]
+#[inline(never)]
 fn put_opening(
     depth: u8,
     several: bool,
@@ -248,7 +254,7 @@ fn put_byte(
 ///
 /// [docs/proofs/STATEMENT.md](crate::proved#contracts) explains the words.
 #[inline]
-const fn group_opening(item: Item) -> &'static [u8] {
+pub(crate) const fn group_opening(item: Item) -> &'static [u8] {
     match item {
         Item::Byte(_) | Item::Part(_) => b"",
         Item::Optional(_) => b"[optional [",
@@ -266,7 +272,7 @@ const fn group_opening(item: Item) -> &'static [u8] {
 ///
 /// [docs/proofs/STATEMENT.md](crate::proved#contracts) explains the words.
 #[inline]
-const fn group_end(item: Item) -> &'static [u8] {
+pub(crate) const fn group_end(item: Item) -> &'static [u8] {
     match item {
         Item::Byte(_) | Item::Part(_) => b"",
         Item::Optional(_) => b"]]",
@@ -283,7 +289,7 @@ const fn group_end(item: Item) -> &'static [u8] {
 ///
 /// [docs/proofs/STATEMENT.md](crate::proved#contracts) explains the words.
 #[inline]
-const fn is_several(item: Item) -> bool {
+pub(crate) const fn is_several(item: Item) -> bool {
     match item {
         Item::Byte(_) | Item::Part(_) | Item::Optional(_) => false,
         Item::First(_) | Item::Or(_) => true,
@@ -299,7 +305,7 @@ const fn is_several(item: Item) -> bool {
 ///
 /// [docs/proofs/STATEMENT.md](crate::proved#contracts) explains the words.
 #[inline]
-const fn last_end(several: bool) -> &'static [u8] {
+pub(crate) const fn last_end(several: bool) -> &'static [u8] {
     if several { b"]" } else { b"" }
 }
 
@@ -312,7 +318,7 @@ const fn last_end(several: bool) -> &'static [u8] {
 ///
 /// [docs/proofs/STATEMENT.md](crate::proved#contracts) explains the words.
 #[inline]
-const fn end_of_several(several: bool, item: Item) -> &'static [u8] {
+pub(crate) const fn end_of_several(several: bool, item: Item) -> &'static [u8] {
     match (several, item) {
         (false, _) | (true, Item::Or(_)) => b"",
         (true, Item::Byte(_) | Item::Part(_) | Item::Optional(_) | Item::First(_)) => b"]",
@@ -329,7 +335,7 @@ const fn end_of_several(several: bool, item: Item) -> &'static [u8] {
 ///
 /// [docs/proofs/STATEMENT.md](crate::proved#contracts) explains the words.
 #[inline]
-const fn group_fault(
+pub(crate) const fn group_fault(
     depth: u8,
     several: bool,
     item: Item,

@@ -9,10 +9,11 @@ use crate::proved::stamp_times::Timestamp;
 use crate::proved::utc_times::UtcDateTime;
 
 impl Parts {
-    /// The instant of these parts, by the finest count of a Unix timestamp: the fraction of the
-    /// second counts with seconds. Each other count and the fraction have to be those of the
-    /// instant. Fails with `Missing` if there is no count. Fails with `Wrong` for the first out of
-    /// range, or other than that of the instant.
+    /// The instant of these parts, by the finest count of a Unix timestamp. The fraction of the
+    /// second gives the digits below the unit of that count. Each other count and the fraction have
+    /// to be those of the instant. So an instant that has all parts is read, if a count of
+    /// nanoseconds or a fraction tells it. Fails with `Missing` if there is no count. Fails with
+    /// `Wrong` for the first out of range, or other than that of the instant.
     ///
     /// ```
     /// # use muxandu::proved::*;
@@ -30,6 +31,8 @@ impl Parts {
     /// ```text
     /// ensures equation { result ≡ instant_of_counts self.now }
     /// ensures value { IfOk result (λ instant. HasInstantParts self.now instant) }
+    /// ensures only { (i : ℤ) → IsInstant i → IsTrue (tells_instant self.now) →
+    ///     HasInstantParts self.now i → result ≡ Ok i }
     /// ```
     ///
     /// [docs/proofs/STATEMENT.md](crate::proved#contracts) explains the words.
@@ -57,6 +60,8 @@ impl Parts {
     /// ```text
     /// ensures equation { result ≡ instant_of_counts self.now }
     /// ensures value { IfOk result (λ instant. HasInstantParts self.now instant) }
+    /// ensures only { (i : ℤ) → IsInstant i → IsTrue (tells_instant self.now) →
+    ///     HasInstantParts self.now i → result ≡ Ok i }
     /// ```
     ///
     /// [docs/proofs/STATEMENT.md](crate::proved#contracts) explains the words.
@@ -95,7 +100,7 @@ const fn named_instant(parts: &Parts) -> Result<Timestamp, ValueRefusal> {
             parts,
             Field::UnixMicrosecond,
             UnixPrecision::Microseconds,
-            0,
+            or_zero(parts.nanosecond) % 1_000,
             count,
         );
     }
@@ -105,7 +110,7 @@ const fn named_instant(parts: &Parts) -> Result<Timestamp, ValueRefusal> {
             parts,
             Field::UnixMillisecond,
             UnixPrecision::Milliseconds,
-            0,
+            or_zero(parts.nanosecond) % 1_000_000,
             count,
         );
     }

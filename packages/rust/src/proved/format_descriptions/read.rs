@@ -4,6 +4,7 @@ use crate::proved::format_descriptions::clock_fractions::{hour_fraction_at, minu
 use crate::proved::format_descriptions::fields::{component_at, signed_hours, signed_year};
 use crate::proved::format_descriptions::fractions::fraction;
 use crate::proved::format_descriptions::item::{behind, fault_after, is_other, size_of};
+use crate::proved::format_descriptions::kept_parts::{keep, restore};
 use crate::proved::format_descriptions::parts::{fits, fits_choice, fits_signed, signed};
 use crate::proved::format_descriptions::reading::{after_mark, two};
 use crate::proved::format_descriptions::unix::unix_at;
@@ -203,12 +204,14 @@ fn front_of<'a>(items: &[Item], text: &'a [u8], parts: &mut Parts) -> Result<&'a
 }
 
 // Reads the first items at the front of a text into the parts, and returns what follows them. Else how many bytes are left
-// from the item on that cannot be read: then the parts are those of the items before it, or of a group.
+// from the item on that cannot be read: then the parts are those of the items before it, or of a group. It calls itself for
+// each group in a group, so an item is read by a function of its own: its stack is not there once for each of them.
 /// # Contract
 ///
 /// ```text
 /// ensures value { result_map_both (λ rest. (parts.new, rest.now)) (λ left. left) result
 ///     ≡ read_from items.now 0 count None text.now parts.old }
+/// ensures kept { Keeps parts.old parts.new }
 /// ensures shorter { IfOk result (λ rest. length rest.now ≤ length text.now) }
 /// ensures left { IfErr result (λ left. left ≤ length text.now) }
 /// ```
@@ -234,7 +237,7 @@ fn front<'a>(
             if let Some(left) = fault {
                 return Err(left);
             }
-            let Some(more) = item_at(item, rest, parts) else {
+            let Some(more) = group_item_at(item, rest, parts) else {
                 return Err(rest.len());
             };
             rest = more;
@@ -261,14 +264,14 @@ fn front<'a>(
             count = count.saturating_sub(size);
             continue;
         }
-        let before = *parts;
+        let before = keep(parts);
         match front(others, size.min(count), rest, parts) {
             Ok(more) => {
                 rest = more;
                 fault = None;
             }
             Err(left) => {
-                *parts = before;
+                restore(&before, parts);
                 fault = fault_after(*item, fault, left);
             }
         }
@@ -317,12 +320,32 @@ const fn front_end<'a>(
     }
 }
 
+// Reads an item of a group into the parts, and returns what follows it.
+/// # Contract
+///
+/// ```text
+/// ensures value { option_map (λ rest. (parts.new, rest.now)) result
+///     ≡ item_at item.now text.now parts.old }
+/// ensures kept { Keeps parts.old parts.new }
+/// ensures shorter { IfSome result (λ rest. length rest.now ≤ length text.now) }
+/// ```
+///
+/// [docs/proofs/STATEMENT.md](crate::proved#contracts) explains the words.
+#[inline(never)]
+fn group_item_at<'a>(item: &Item, text: &'a [u8], parts: &mut Parts) -> Option<&'a [u8]> {
+    match item_at(item, text, parts) {
+        Some(rest) => Some(rest),
+        None => None,
+    }
+}
+
 // Reads an item into the parts, and returns what follows it.
 /// # Contract
 ///
 /// ```text
 /// ensures value { option_map (λ rest. (parts.new, rest.now)) result
 ///     ≡ item_at item.now text.now parts.old }
+/// ensures unchanged { IfNone result (parts.new ≡ parts.old) }
 /// ensures shorter { IfSome result (λ rest. length rest.now ≤ length text.now) }
 /// ```
 ///

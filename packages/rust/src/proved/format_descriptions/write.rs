@@ -60,16 +60,25 @@ pub fn format_date_time(items: &[Item], at: OffsetDateTime) -> Option<Text> {
 /// [docs/proofs/STATEMENT.md](crate::proved#contracts) explains the words.
 #[inline]
 pub fn format(items: &[Item], date: Date, time: Time, offset: UtcOffset) -> Option<Text> {
-    write_items(items, items.len(), date, time, offset, Text::new())
+    let mut text = Text::new();
+    if write_items(items, items.len(), date, time, offset, &mut text) {
+        Some(text)
+    } else {
+        None
+    }
 }
 
-// A text with what the first items write.
+// Adds what the first items write to a text, and returns whether it did. It calls itself for each group in a group, so the text
+// stays where it is: no frame of the stack has another.
 /// # Contract
 ///
 /// ```text
-/// requires { Fits text }
-/// ensures text { let all = text ++ flat_text (written_from items.now 0 count) date time offset in
-///     SomeIff result (Fits all) all }
+/// requires { Fits text.old }
+/// ensures text { let all = text.old
+///     ++ flat_text (written_from items.now 0 count) date time offset in
+///     OnTrue result (Fits all × (text.new ≡ all)) }
+/// ensures none { OnFalse result
+///     (¬ Fits (text.old ++ flat_text (written_from items.now 0 count) date time offset)) }
 /// ```
 ///
 /// [docs/proofs/STATEMENT.md](crate::proved#contracts) explains the words.
@@ -80,34 +89,29 @@ fn write_items(
     date: Date,
     time: Time,
     offset: UtcOffset,
-    text: Text,
-) -> Option<Text> {
+    text: &mut Text,
+) -> bool {
     let mut items = items;
     let mut count = count;
-    let mut text = text;
     while let Some((item, others)) = items.split_first() {
         if count == 0 {
-            return Some(text);
+            return true;
         }
         count -= 1;
         let Some(size) = size_of(*item) else {
-            if !put_item(*item, date, time, offset, &mut text) {
-                return None;
+            if !put_item(*item, date, time, offset, text) {
+                return false;
             }
             items = others;
             continue;
         };
-        if !is_other(*item) {
-            let Some(longer) = write_items(others, size.min(count), date, time, offset, text)
-            else {
-                return None;
-            };
-            text = longer;
+        if !is_other(*item) && !write_items(others, size.min(count), date, time, offset, text) {
+            return false;
         }
         items = behind(size, others);
         count = count.saturating_sub(size);
     }
-    Some(text)
+    true
 }
 
 // Adds the text of an item, and returns whether it did. It does not where the byte is not ASCII, the component cannot write
@@ -121,7 +125,7 @@ fn write_items(
 /// ```
 ///
 /// [docs/proofs/STATEMENT.md](crate::proved#contracts) explains the words.
-#[inline]
+#[inline(never)]
 fn put_item(item: Item, date: Date, time: Time, offset: UtcOffset, text: &mut Text) -> bool {
     match item {
         Item::Byte(byte) => put_byte(byte, text),

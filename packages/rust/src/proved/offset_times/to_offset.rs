@@ -16,8 +16,7 @@ use crate::proved::utc_times::UtcDateTime;
 ///
 /// [docs/proofs/STATEMENT.md](crate::proved#contracts) explains the words.
 pub trait ToOffset {
-    /// The same instant at an offset, where its date must be in range. The caller proves this, or
-    /// calls [`ToOffset::checked_to_offset`]; the `time` crate panics.
+    /// The same instant at an offset, where its date must be in range.
     ///
     /// ```
     /// # use muxandu::proved::*;
@@ -29,6 +28,11 @@ pub trait ToOffset {
     /// # Ok(())
     /// # }
     /// ```
+    ///
+    /// # Panics
+    ///
+    /// The call breaks a `requires` of the contract.
+    /// [`ToOffset::checked_to_offset`] returns `None` there.
     ///
     /// # Contract
     ///
@@ -97,6 +101,10 @@ impl ToOffset for UtcDateTime {
 
 impl UtcDateTime {
     /// As [`ToOffset::to_offset`], which has the contract.
+    ///
+    /// # Panics
+    ///
+    /// The call breaks a `requires` of the contract.
     #[inline]
     #[track_caller]
     pub const fn to_offset(self, offset: UtcOffset) -> OffsetDateTime {

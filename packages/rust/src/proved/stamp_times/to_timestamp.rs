@@ -13,8 +13,7 @@ use crate::proved::offset_times::OffsetDateTime;
 ///
 /// [docs/proofs/STATEMENT.md](crate::proved#contracts) explains the words.
 pub trait ToTimestamp {
-    /// The timestamp of the instant, which must be in range. The caller proves this, or calls
-    /// [`ToTimestamp::checked_to_timestamp`]; the `time` crate panics.
+    /// The timestamp of the instant, which must be in range.
     ///
     /// ```
     /// # use muxandu::proved::*;
@@ -24,6 +23,11 @@ pub trait ToTimestamp {
     /// # Ok(())
     /// # }
     /// ```
+    ///
+    /// # Panics
+    ///
+    /// The call breaks a `requires` of the contract.
+    /// [`ToTimestamp::checked_to_timestamp`] returns `None` there.
     ///
     /// # Contract
     ///
@@ -86,6 +90,10 @@ impl ToTimestamp for OffsetDateTime {
 
 impl OffsetDateTime {
     /// As [`ToTimestamp::to_timestamp`], which has the contract.
+    ///
+    /// # Panics
+    ///
+    /// The call breaks a `requires` of the contract.
     #[inline]
     #[track_caller]
     pub const fn to_timestamp(self) -> Timestamp {

@@ -7,8 +7,7 @@ use crate::proved::plain_times::PlainDateTime;
 use crate::proved::utc_times::{AsUtc, UtcDateTime};
 
 impl OffsetDateTime {
-    /// The same instant at another offset, where its date must be in range. The caller proves this,
-    /// or calls [`OffsetDateTime::checked_to_offset`]; the `time` crate panics.
+    /// The same instant at another offset, where its date must be in range.
     ///
     /// ```
     /// # use muxandu::proved::*;
@@ -20,6 +19,11 @@ impl OffsetDateTime {
     /// # Ok(())
     /// # }
     /// ```
+    ///
+    /// # Panics
+    ///
+    /// The call breaks a `requires` of the contract.
+    /// [`OffsetDateTime::checked_to_offset`] returns `None` there.
     ///
     /// # Contract
     ///
@@ -73,8 +77,7 @@ impl OffsetDateTime {
         }
     }
 
-    /// The same instant in UTC, which must be in range. The caller proves this, or calls
-    /// [`OffsetDateTime::checked_to_utc`]; the `time` crate panics.
+    /// The same instant in UTC, which must be in range.
     ///
     /// ```
     /// # use muxandu::proved::*;
@@ -85,6 +88,11 @@ impl OffsetDateTime {
     /// # Ok(())
     /// # }
     /// ```
+    ///
+    /// # Panics
+    ///
+    /// The call breaks a `requires` of the contract.
+    /// [`OffsetDateTime::checked_to_utc`] returns `None` there.
     ///
     /// # Contract
     ///

@@ -7,8 +7,7 @@ use std::cmp::Ordering;
 use std::ops::Sub;
 
 impl Timestamp {
-    /// The same instant at an offset, where its date must be in range. The caller proves this, or
-    /// calls [`Timestamp::checked_to_offset`]; the `time` crate panics.
+    /// The same instant at an offset, where its date must be in range.
     ///
     /// ```
     /// # use muxandu::proved::*;
@@ -20,6 +19,11 @@ impl Timestamp {
     /// # Ok(())
     /// # }
     /// ```
+    ///
+    /// # Panics
+    ///
+    /// The call breaks a `requires` of the contract.
+    /// [`Timestamp::checked_to_offset`] returns `None` there.
     ///
     /// # Contract
     ///

@@ -1,0 +1,11 @@
+pub mod PieceLemmas
+pub mod NumberLemmas
+pub mod TermLoopLemmas
+pub mod FrontLemmas
+pub mod NanosecondLemmas
+pub mod TermLemmas
+pub mod TermsLemmas
+pub mod IsoLemmas
+pub mod DerivesLemmas
+pub mod WrittenLemmas
+pub mod ShortLemmas

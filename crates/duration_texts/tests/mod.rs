@@ -1,0 +1,12 @@
+//! The tests, and how they compare.
+use std::fmt::Debug;
+use std::process::Abort;
+
+mod faults;
+mod readings;
+mod texts;
+
+// Ends the test unless the two values are equal.
+fn is<T: Copy + PartialEq + Debug>(rt: &impl Abort, shown: T, wanted: T) {
+    assert_eq!(rt; shown, wanted);
+}

@@ -1,0 +1,6 @@
+pub mod IsoForms
+pub mod IsoReading
+pub mod IsoMeaning
+pub mod IsoTexts
+pub mod IsoLaws
+pub mod IsoFaults

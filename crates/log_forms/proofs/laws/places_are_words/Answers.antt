@@ -1,0 +1,48 @@
+use Rattle.std.proofs.Common.{refl}
+use Rattle.calendar_values.specs.Calendar.{day_of_ordinal, days_from_1970, days_in_months, days_of_years, days_until_1970, last_month_begun}
+use Rattle.calendar_values.specs.Calendar.{month_of_ordinal, ordinal_of, year_after_1970, year_before_1970, year_of, year_start}
+use Rattle.calendar_values.specs.Constructors.{iso_week_date}
+use Rattle.calendar_values.specs.WallClock.{wall_time}
+use Rattle.calendar_values.specs.Weeks.{count_weekday, weekday_of}
+use Rattle.format_descriptions.specs.ClockValues.{clock_at, clock_of_half, time_of_parts}
+use Rattle.format_descriptions.specs.InstantValues.{counted_instant, instant_of_counts, wrong_instant}
+use Rattle.format_descriptions.specs.Names.{month_of_number, weekday_of_number}
+use Rattle.format_descriptions.specs.OffsetValues.{offset_at, offset_of_parts}
+use Rattle.format_descriptions.specs.Read.{agrees, component_at, item_at, read_from, with_part}
+use Rattle.format_descriptions.specs.Reading.{counted_at, decimal_at, digits_on, four_at, fraction_at, letter_at, month_at, more_at, past_digits}
+use Rattle.format_descriptions.specs.Reading.{period_at, sign_at, signed_century_at, signed_hours_at, signed_year_at, six_at, three_at}
+use Rattle.format_descriptions.specs.Reading.{three_digits_at, two_at, unix_at, weekday_at, weekday_number_at, word_at, year_since_at}
+use Rattle.format_descriptions.specs.Values.{date_of_parts, day_in_year, iso_day, month_day, week_day, week_ordinal, wrong_date, wrong_day}
+use Rattle.format_descriptions.specs.Values.{wrong_week, wrong_year, year_day}
+use Rattle.format_descriptions.specs.Written.{hour_12, period_text}
+use Rattle.log_forms.specs.Ends.{is_apart}
+use Rattle.log_forms.specs.Fronts.{last_word}
+use Rattle.log_forms.specs.Instants.{instant_of_parts, with_year}
+use Rattle.log_forms.specs.Json.{member_at, value_of}
+use Rattle.log_forms.specs.Marks.{bytes_at, past_blanks}
+use Rattle.log_forms.specs.Places.{behind_text, field_at, text_at}
+use Rattle.log_forms.specs.Stamps.{stamp_at}
+use Rattle.offset_times.specs.Local.{instant_of}
+use Rattle.rfc3339.specs.Reading.{digit_at, digits_at, mark_at, two_digits_at, year_at}
+use Rattle.utc_times.specs.UnixTime.{instant_or_refusal}
+use Rattle.log_forms.specs.Choices.{count_in, reader_form}
+use Rattle.log_forms.specs.PlaceWords.{number_in, place_of}
+use Rattle.log_forms.proofs.laws.places_are_words.Goals as goal
+
+pub returns : goal.returns
+unfolding day_of_ordinal days_from_1970 days_in_months days_of_years days_until_1970 last_month_begun month_of_ordinal ordinal_of year_after_1970
+    year_before_1970 year_of year_start iso_week_date wall_time count_weekday weekday_of clock_at clock_of_half time_of_parts counted_instant
+    instant_of_counts wrong_instant month_of_number weekday_of_number offset_at offset_of_parts agrees component_at item_at read_from with_part
+    counted_at decimal_at digits_on four_at fraction_at letter_at month_at more_at past_digits period_at sign_at signed_century_at signed_hours_at
+    signed_year_at six_at three_at three_digits_at two_at unix_at weekday_at weekday_number_at word_at year_since_at date_of_parts day_in_year iso_day
+    month_day week_day week_ordinal wrong_date wrong_day wrong_week wrong_year year_day hour_12 period_text is_apart instant_of_parts
+    with_year member_at value_of bytes_at past_blanks behind_text field_at text_at last_word stamp_at instant_of digit_at digits_at mark_at two_digits_at
+    year_at instant_or_refusal count_in reader_form number_in place_of
+returns c = record {
+  places = refl;
+  doubtful = refl;
+  first = refl;
+  second = refl;
+  next_place = refl;
+  leap_day = refl;
+}

@@ -1,0 +1,3 @@
+pub mod Earliest
+pub mod Instants
+pub mod Showings

@@ -1,0 +1,18 @@
+-- The lines of a log that are counted by how often the clocks of a zone show their wall clocks.
+use Rattle.std.specs.Prelude.{◌≡◌, List, ℕ, Option}
+use Rattle.log_zones.specs.declared.showings.Showing.{Showing}
+use Rattle.stamps.specs.Changes.{reader_by}
+use Rattle.stamps.specs.ClockTallies.{clocks_after}
+use Rattle.stamps.specs.Decisions.{is_first, one_more}
+use Rattle.stamps.specs.LineStamps.{has_mark, mark_length}
+use Rattle.stamps.specs.Showings.{IsLineShowing}
+use Rattle.stamps.specs.declared.clock_tallies.ClockTally.{ClockTally}
+use Rattle.stamps.specs.declared.decide.State.{State}
+use Rattle.stamps.specs.declared.task.Task.{Task}
+
+-- the tally counts a line after others by how often clocks show its wall clock
+abbrev pub IsCounted : Task → State → List ℕ → ClockTally → ClockTally → Type 0
+IsCounted task state line before after =
+    (showing : Option Showing)
+    × IsLineShowing (reader_by task.anew state.choice.own task.reader) state.last (mark_length (has_mark (is_first state) line)) line showing
+    × (after ≡ clocks_after before (one_more state.lines) showing)

@@ -1,4 +1,0 @@
-pub mod AgreementLemmas
-pub mod CycleLemmas
-pub mod IsoWeekLemmas
-pub mod SumLemmas

@@ -1,0 +1,11 @@
+pub mod PieceLemmas
+pub mod FrontLemmas
+pub mod NumberLemmas
+pub mod TextLemmas
+pub mod RuleLemmas
+pub mod FaultLemmas
+pub mod FileLemmas
+pub mod ZoneLemmas
+pub mod RuleTextLemmas
+pub mod TwoLemmas
+pub mod WrittenLemmas

@@ -1,0 +1,17 @@
+pub mod Abbreviations
+pub mod Pieces
+pub mod Numbers
+pub mod Rules
+pub mod RuleZones
+pub mod Grammar
+pub mod Reading
+pub mod Blocks
+pub mod FileReading
+pub mod FileGrammar
+pub mod Files
+pub mod Kinds
+pub mod Endings
+pub mod FileZones
+pub mod FileZoneLemmas
+pub mod RuleTexts
+pub mod ZoneNames

@@ -1,0 +1,12 @@
+//! The tests, and how they compare.
+use std::fmt::Debug;
+use std::process::Abort;
+
+mod file_zones;
+mod zone_changes;
+mod zone_meetings;
+
+// Ends the test unless the two values are equal.
+fn is<T: Copy + PartialEq + Debug>(rt: &impl Abort, shown: T, wanted: T) {
+    assert_eq!(rt; shown, wanted);
+}

@@ -1,0 +1,5 @@
+pub mod ChoiceLemmas
+pub mod LawLemmas
+pub mod PlaceLemmas
+pub mod ShiftLemmas
+pub mod TimesLemmas

@@ -1,0 +1,5 @@
+pub mod Callers
+pub mod Choices
+pub mod Gaps
+pub mod Laws
+pub mod Zoned

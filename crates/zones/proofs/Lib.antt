@@ -1,0 +1,13 @@
+pub mod BetweenLemmas
+pub mod CycleLemmas
+pub mod FarLemmas
+pub mod IntervalLemmas
+pub mod JoinedLemmas
+pub mod KeptLemmas
+pub mod LawLemmas
+pub mod MonthsLemmas
+pub mod RuleLemmas
+pub mod Sequences
+pub mod SettledLemmas
+pub mod TableLemmas
+pub mod ZoneLemmas

@@ -1,0 +1,10 @@
+pub mod Choices
+pub mod Clocks
+pub mod Cycles
+pub mod Intervals
+pub mod Laws
+pub mod Ranges
+pub mod Rules
+pub mod Seconds
+pub mod Tables
+pub mod Zones

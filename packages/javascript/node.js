@@ -1,0 +1,33 @@
+// The package in Node, which reads the files of time zones.
+
+import { readFileSync } from "node:fs";
+import { join } from "node:path";
+
+import { Zone as ZoneOfBytes } from "./index.js";
+import { textual } from "./library.js";
+import { refuse } from "./refused.js";
+
+export * from "./index.js";
+
+/** The names of zones: parts between slashes, none of which begins with a dot. */
+const NAMES = /^[\w+-][\w.+-]*(?:\/[\w+-][\w.+-]*)*$/;
+
+/** The errors of a name for which there is no file. */
+const NO_FILE = ["ENOENT", "ENOTDIR", "EISDIR", "ENAMETOOLONG"];
+
+function bytesOfZone(name) {
+    try {
+        return readFileSync(join(process.env.TZDIR || "/usr/share/zoneinfo", name));
+    } catch (error) {
+        if (NO_FILE.includes(error.code)) refuse("ZONE_NAME");
+        throw error;
+    }
+}
+
+/** A time zone, which also has the file of its name. */
+export class Zone extends ZoneOfBytes {
+    static open(name) {
+        if (!NAMES.test(textual(name))) refuse("ZONE_NAME");
+        return new this(bytesOfZone(name), undefined, name);
+    }
+}

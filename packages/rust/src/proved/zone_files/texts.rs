@@ -1,0 +1,434 @@
+// Made by make/erase of crates/zone_files/src/texts.rt. Do not edit.
+//! The texts of rules.
+use crate::proved::zone_files::pieces::{Kind, split};
+use crate::proved::zone_files::tz_rule::{Daylight, TzRule};
+use crate::proved::calendar_values::Month;
+use crate::proved::memory::{AllocError, Global};
+use crate::proved::zones::{Moment, RuleDay};
+
+// Adds two digits.
+/// # Contract
+///
+/// ```text
+/// requires { n < 100 }
+/// ensures { OnOk result (out.new.items ≡ out.old.items ++ two_digits n) }
+/// ```
+///
+/// [docs/proofs/STATEMENT.md](crate::proved#contracts) explains the words.
+#[inline]
+fn put_two(out: &mut crate::proved::memory::Vec<u8>, n: u32) -> Result<(), AllocError> {
+    out.extend_from_slice(&[b'0' + (n / 10) as u8, b'0' + (n % 10) as u8])?;
+    Ok(())
+}
+
+// Adds a number with as few digits as it has.
+/// # Contract
+///
+/// ```text
+/// requires { n < 1_000 }
+/// ensures { OnOk result (out.new.items ≡ out.old.items ++ short_digits n) }
+/// ```
+///
+/// [docs/proofs/STATEMENT.md](crate::proved#contracts) explains the words.
+#[inline]
+fn put_number(out: &mut crate::proved::memory::Vec<u8>, n: u32) -> Result<(), AllocError> {
+    if n < 10 {
+        out.push(b'0' + n as u8)?;
+        return Ok(());
+    }
+    if n < 100 {
+        return put_two(out, n);
+    }
+    out.push(b'0' + (n / 100) as u8)?;
+    put_two(out, n % 100)
+}
+
+// Adds the seconds of a minute, unless there are none.
+/// # Contract
+///
+/// ```text
+/// requires { n < 60 }
+/// ensures { OnOk result (out.new.items ≡ out.old.items ++ seconds_text n) }
+/// ```
+///
+/// [docs/proofs/STATEMENT.md](crate::proved#contracts) explains the words.
+#[inline]
+fn put_seconds(out: &mut crate::proved::memory::Vec<u8>, n: u32) -> Result<(), AllocError> {
+    if n == 0 {
+        return Ok(());
+    }
+    out.push(b':')?;
+    put_two(out, n)
+}
+
+// Adds the minutes and seconds of an hour, unless there are none.
+/// # Contract
+///
+/// ```text
+/// requires { n < 3_600 }
+/// ensures { OnOk result (out.new.items ≡ out.old.items ++ minutes_text n) }
+/// ```
+///
+/// [docs/proofs/STATEMENT.md](crate::proved#contracts) explains the words.
+#[inline]
+fn put_minutes(out: &mut crate::proved::memory::Vec<u8>, n: u32) -> Result<(), AllocError> {
+    if n == 0 {
+        return Ok(());
+    }
+    out.push(b':')?;
+    put_two(out, n / 60)?;
+    put_seconds(out, n % 60)
+}
+
+// Adds a clock.
+/// # Contract
+///
+/// ```text
+/// requires { n < 604_800 }
+/// ensures { OnOk result (out.new.items ≡ out.old.items ++ clock_text n) }
+/// ```
+///
+/// [docs/proofs/STATEMENT.md](crate::proved#contracts) explains the words.
+#[inline]
+fn put_clock(out: &mut crate::proved::memory::Vec<u8>, n: u32) -> Result<(), AllocError> {
+    put_number(out, n / 3_600)?;
+    put_minutes(out, n % 3_600)
+}
+
+// Adds a clock with a sign.
+/// # Contract
+///
+/// ```text
+/// requires low { neg_ℤ (pos 604_799) ≤ℤ seconds }
+/// requires high { seconds ≤ℤ pos 604_799 }
+/// ensures { OnOk result (out.new.items ≡ out.old.items ++ signed_text seconds) }
+/// ```
+///
+/// [docs/proofs/STATEMENT.md](crate::proved#contracts) explains the words.
+#[inline]
+fn put_signed(out: &mut crate::proved::memory::Vec<u8>, seconds: i32) -> Result<(), AllocError> {
+    if seconds < 0 {
+        out.push(b'-')?;
+    }
+    put_clock(out, seconds.unsigned_abs())
+}
+
+// Whether a name has letters alone.
+/// # Contract
+///
+/// ```text
+/// ensures { result ≡ list_all is_ascii_alphabetic name.now }
+/// ```
+///
+/// [docs/proofs/STATEMENT.md](crate::proved#contracts) explains the words.
+#[inline]
+fn is_of_letters(name: &[u8]) -> bool {
+    split(Kind::Letter, name).1.is_empty()
+}
+
+// Adds a name.
+/// # Contract
+///
+/// ```text
+/// ensures { OnOk result (out.new.items ≡ out.old.items ++ name_text name.now) }
+/// ```
+///
+/// [docs/proofs/STATEMENT.md](crate::proved#contracts) explains the words.
+#[inline]
+fn put_name(out: &mut crate::proved::memory::Vec<u8>, name: &[u8]) -> Result<(), AllocError> {
+    if is_of_letters(name) {
+        out.extend_from_slice(name)?;
+        return Ok(());
+    }
+    out.push(b'<')?;
+    out.extend_from_slice(name)?;
+    out.push(b'>')?;
+    Ok(())
+}
+
+// The number of a month.
+/// # Contract
+///
+/// ```text
+/// ensures value { result ≡ month_number month }
+/// ensures bound { result ≤ 12 }
+/// ```
+///
+/// [docs/proofs/STATEMENT.md](crate::proved#contracts) explains the words.
+#[inline]
+const fn number_of_month(month: Month) -> u32 {
+    match month {
+        Month::January => 1,
+        Month::February => 2,
+        Month::March => 3,
+        Month::April => 4,
+        Month::May => 5,
+        Month::June => 6,
+        Month::July => 7,
+        Month::August => 8,
+        Month::September => 9,
+        Month::October => 10,
+        Month::November => 11,
+        Month::December => 12,
+    }
+}
+
+// Adds a weekday in a week of a month.
+/// # Contract
+///
+/// ```text
+/// ensures { OnOk result (out.new.items ≡
+///     out.old.items ++ day_text (OfWeek (month_number month) week weekday)) }
+/// ```
+///
+/// [docs/proofs/STATEMENT.md](crate::proved#contracts) explains the words.
+#[inline]
+fn put_weekday(
+    out: &mut crate::proved::memory::Vec<u8>,
+    month: Month,
+    week: u8,
+    weekday: u8,
+) -> Result<(), AllocError> {
+    out.push(b'M')?;
+    put_number(out, number_of_month(month))?;
+    out.push(b'.')?;
+    put_number(out, week as u32)?;
+    out.push(b'.')?;
+    put_number(out, weekday as u32)
+}
+
+// Adds a day of each year.
+/// # Contract
+///
+/// ```text
+/// requires { IsRuleDay day }
+/// ensures { OnOk result (out.new.items ≡ out.old.items ++ day_text (day_parts day)) }
+/// ```
+///
+/// [docs/proofs/STATEMENT.md](crate::proved#contracts) explains the words.
+#[inline]
+fn put_day(out: &mut crate::proved::memory::Vec<u8>, day: RuleDay) -> Result<(), AllocError> {
+    match day {
+        RuleDay::Weekday(month, week, weekday) => put_weekday(out, month, week, weekday),
+        RuleDay::Common(n) => {
+            out.push(b'J')?;
+            put_number(out, n as u32)
+        }
+        RuleDay::Counted(n) => put_number(out, n as u32),
+    }
+}
+
+// Adds a time of day, unless it is 2:00.
+/// # Contract
+///
+/// ```text
+/// requires low { neg_ℤ (pos 604_799) ≤ℤ seconds }
+/// requires high { seconds ≤ℤ pos 604_799 }
+/// ensures { OnOk result (out.new.items ≡ out.old.items ++ time_text seconds) }
+/// ```
+///
+/// [docs/proofs/STATEMENT.md](crate::proved#contracts) explains the words.
+#[inline]
+fn put_time(out: &mut crate::proved::memory::Vec<u8>, seconds: i32) -> Result<(), AllocError> {
+    if 7_200 <= seconds && seconds <= 7_200 {
+        return Ok(());
+    }
+    out.push(b'/')?;
+    put_signed(out, seconds)
+}
+
+// Adds a day of each year and a time.
+/// # Contract
+///
+/// ```text
+/// ensures { OnOk result (out.new.items ≡
+///     out.old.items ++ (day_text (day_parts moment.day) ++ time_text moment.time)) }
+/// ```
+///
+/// [docs/proofs/STATEMENT.md](crate::proved#contracts) explains the words.
+#[inline]
+fn put_day_and_time(
+    out: &mut crate::proved::memory::Vec<u8>,
+    moment: Moment,
+) -> Result<(), AllocError> {
+    put_day(out, moment.day)?;
+    put_time(out, moment.time)
+}
+
+// Adds a moment of each year.
+/// # Contract
+///
+/// ```text
+/// ensures { OnOk result (out.new.items ≡ out.old.items ++ moment_text (moment_parts moment)) }
+/// ```
+///
+/// [docs/proofs/STATEMENT.md](crate::proved#contracts) explains the words.
+#[inline]
+fn put_moment(out: &mut crate::proved::memory::Vec<u8>, moment: Moment) -> Result<(), AllocError> {
+    out.push(b',')?;
+    put_day_and_time(out, moment)
+}
+
+// Adds an offset, which the text counts west of UTC.
+/// # Contract
+///
+/// ```text
+/// requires { IsTextOffset offset }
+/// ensures { OnOk result (out.new.items ≡ out.old.items ++ offset_text offset) }
+/// ```
+///
+/// [docs/proofs/STATEMENT.md](crate::proved#contracts) explains the words.
+#[inline]
+fn put_offset(out: &mut crate::proved::memory::Vec<u8>, offset: i32) -> Result<(), AllocError> {
+    put_signed(out, -offset)
+}
+
+// Adds the offset of daylight saving time, unless it is an hour more than that of standard time.
+/// # Contract
+///
+/// ```text
+/// requires standard { IsTextOffset standard }
+/// requires offset { IsTextOffset offset }
+/// ensures { OnOk result (out.new.items ≡
+///     out.old.items ++ daylight_offset_text standard offset) }
+/// ```
+///
+/// [docs/proofs/STATEMENT.md](crate::proved#contracts) explains the words.
+#[inline]
+fn put_daylight_offset(
+    out: &mut crate::proved::memory::Vec<u8>,
+    standard: i32,
+    offset: i32,
+) -> Result<(), AllocError> {
+    if standard + 3_600 <= offset && offset <= standard + 3_600 {
+        return Ok(());
+    }
+    put_offset(out, offset)
+}
+
+// Adds two moments of each year.
+/// # Contract
+///
+/// ```text
+/// ensures { OnOk result (out.new.items ≡
+///     out.old.items ++ (moment_text (moment_parts from) ++ moment_text (moment_parts until))) }
+/// ```
+///
+/// [docs/proofs/STATEMENT.md](crate::proved#contracts) explains the words.
+#[inline]
+fn put_moments(
+    out: &mut crate::proved::memory::Vec<u8>,
+    from: Moment,
+    until: Moment,
+) -> Result<(), AllocError> {
+    put_moment(out, from)?;
+    put_moment(out, until)
+}
+
+// Adds the offset of daylight saving time and its moments.
+/// # Contract
+///
+/// ```text
+/// requires standard { IsTextOffset standard }
+/// requires offset { IsTextOffset offset }
+/// ensures { OnOk result (out.new.items ≡ out.old.items
+///     ++ (daylight_offset_text standard offset
+///     ++ (moment_text (moment_parts from) ++ moment_text (moment_parts until)))) }
+/// ```
+///
+/// [docs/proofs/STATEMENT.md](crate::proved#contracts) explains the words.
+#[inline]
+fn put_offset_and_moments(
+    out: &mut crate::proved::memory::Vec<u8>,
+    standard: i32,
+    offset: i32,
+    from: Moment,
+    until: Moment,
+) -> Result<(), AllocError> {
+    put_daylight_offset(out, standard, offset)?;
+    put_moments(out, from, until)
+}
+
+// Adds daylight saving time.
+/// # Contract
+///
+/// ```text
+/// requires standard { IsTextOffset standard }
+/// requires offset { IsTextOffset daylight.offset }
+/// ensures { OnOk result (out.new.items ≡
+///     out.old.items ++ daylight_text standard (daylight_parts daylight.entry)) }
+/// ```
+///
+/// [docs/proofs/STATEMENT.md](crate::proved#contracts) explains the words.
+#[inline]
+fn put_daylight(
+    out: &mut crate::proved::memory::Vec<u8>,
+    standard: i32,
+    daylight: Daylight<'_>,
+) -> Result<(), AllocError> {
+    put_name(out, daylight.name)?;
+    put_offset_and_moments(
+        out,
+        standard,
+        daylight.offset,
+        daylight.from,
+        daylight.until,
+    )
+}
+
+// Adds what follows standard time.
+/// # Contract
+///
+/// ```text
+/// requires { HasText (rule_parts rule) }
+/// ensures { OnOk result (out.new.items ≡
+///     out.old.items
+///     ++ rest_text (rule_parts rule.entry).offset (rule_parts rule.entry).daylight) }
+/// ```
+///
+/// [docs/proofs/STATEMENT.md](crate::proved#contracts) explains the words.
+#[inline]
+fn put_rest(out: &mut crate::proved::memory::Vec<u8>, rule: TzRule<'_>) -> Result<(), AllocError> {
+    match rule.daylight {
+        None => Ok(()),
+        Some(daylight) => put_daylight(out, rule.offset, daylight),
+    }
+}
+
+// The text of a rule.
+/// # Contract
+///
+/// ```text
+/// requires { HasText (rule_parts rule) }
+/// ensures { IfOk result (λ text. text.items ≡ rule_text (rule_parts rule.entry)) }
+/// ```
+///
+/// [docs/proofs/STATEMENT.md](crate::proved#contracts) explains the words.
+#[inline]
+fn text_of(alloc: Global, rule: TzRule<'_>) -> Result<crate::proved::memory::Vec<u8>, AllocError> {
+    let mut out = crate::proved::memory::Vec::new(alloc);
+    put_name(&mut out, rule.name)?;
+    put_offset(&mut out, rule.offset)?;
+    put_rest(&mut out, rule)?;
+    Ok(out)
+}
+
+/// Returns the text of a rule, with the shortest numbers and nothing that may be left out, such as
+/// `CET-1CEST,M3.5.0,M10.5.0/3`.
+///
+/// # Contract
+///
+/// ```text
+/// requires { HasText (rule_parts rule) }
+/// ensures text { IfOk result (λ text. text.items ≡ rule_text (rule_parts rule.entry)) }
+/// ensures back { IfOk result (λ text. Derives text.items (rule_parts rule.entry)) }
+/// ```
+///
+/// [docs/proofs/STATEMENT.md](crate::proved#contracts) explains the words.
+#[inline]
+pub(in crate::proved) fn rule_text(
+    alloc: Global,
+    rule: TzRule<'_>,
+) -> Result<crate::proved::memory::Vec<u8>, AllocError> {
+    text_of(alloc, rule)
+}

@@ -1,0 +1,105 @@
+// Made by make/erase of crates/zones/src/zone.rt. Do not edit.
+//! A time zone.
+use crate::proved::zones::{Cycle, Tail, TimeType, Transition, ZoneError, joined, tables};
+mod batches;
+mod days;
+mod instants;
+mod intervals;
+mod owned;
+mod parts;
+mod transitions;
+
+pub use owned::OwnedZone;
+
+/// A time zone: transitions, which the caller keeps, and the rule of each year that may follow
+/// them. Seconds are Unix seconds, at most 400,000,000 days from 1970; so are wall clocks, each as
+/// the second at which clocks in UTC show it. A contract sees its parts, and its clocks by the
+/// definitions of `specs/Zones.antt`.
+pub struct Zone<'a> {
+    first: TimeType,
+    rows: &'a [Transition],
+    tail: Option<Tail>,
+}
+
+impl<'a> Zone<'a> {
+    /// Returns the zone whose clocks show one kind of local time at all times.
+    ///
+    /// # Contract
+    ///
+    /// ```text
+    /// ensures { result ≡ fixed_zone first }
+    /// ```
+    ///
+    /// [docs/proofs/STATEMENT.md](crate::proved#contracts) explains the words.
+    #[inline]
+    pub const fn of_type(first: TimeType) -> Zone<'a> {
+        Zone {
+            first,
+            rows: &[],
+            tail: None,
+        }
+    }
+
+    /// Returns the zone of a rule that holds at all times, or `None` if the rule overlaps itself in
+    /// some year.
+    ///
+    /// # Contract
+    ///
+    /// ```text
+    /// ensures some { IfSome result (λ z. IsRuleZone rule z) }
+    /// ensures none { IfNone result (RunsForward rule → ⊥) }
+    /// ```
+    ///
+    /// [docs/proofs/STATEMENT.md](crate::proved#contracts) explains the words.
+    #[inline]
+    pub fn of_rule(rule: Cycle) -> Option<Zone<'a>> {
+        let first = rule.type_before(joined::FIRST_MOMENT);
+        match joined::tail_after(first, &[], rule) {
+            Some(tail) => Some(Zone {
+                first,
+                rows: &[],
+                tail: Some(tail),
+            }),
+            None => None,
+        }
+    }
+
+    /// Returns the zone with this kind of local time before the first transition, these
+    /// transitions, and the rule after the last of them. Fails with the index of the first
+    /// transition that does not follow the one before it, or if the rule does not follow the last.
+    ///
+    /// # Contract
+    ///
+    /// ```text
+    /// ensures { MatchResult result (λ z. IsZoneBy first rows.now rule z)
+    ///     (λ e. IsFault first rows.now rule e) }
+    /// ```
+    ///
+    /// [docs/proofs/STATEMENT.md](crate::proved#contracts) explains the words.
+    #[inline]
+    pub fn new(
+        first: TimeType,
+        rows: &'a [Transition],
+        rule: Option<Cycle>,
+    ) -> Result<Zone<'a>, ZoneError> {
+        let count = tables::rows_in_order(first, rows);
+        if count < rows.len() {
+            return Err(ZoneError::Row(count));
+        }
+        let Some(cycle) = rule else {
+            return Ok(Zone {
+                first,
+                rows,
+                tail: None,
+            });
+        };
+        match joined::tail_after(first, rows, cycle) {
+            Some(tail) => Ok(Zone {
+                first,
+                rows,
+                tail: Some(tail),
+            }),
+            None => Err(ZoneError::Rule),
+        }
+    }
+}
