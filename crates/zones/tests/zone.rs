@@ -108,9 +108,17 @@ fn zones_that_keep_their_transitions(rt: HostRuntime) -> Result<(), Fail> {
         return Err(Fail::from("no zone"));
     };
     let owned = OwnedZone::new(rt.alloc(), &zone)?;
-    for second in [1_711_846_799, 1_711_846_800, 1_729_990_800, 4_109_878_800] {
-        is(&rt, owned.zone().offset_at(second), zone.offset_at(second));
-    }
+    let kept = owned.zone();
+    is(
+        &rt,
+        (kept.offset_at(1_711_846_799), kept.offset_at(1_711_846_800)),
+        (3_600, 7_200),
+    );
+    is(
+        &rt,
+        (kept.offset_at(1_729_990_800), kept.offset_at(4_109_878_800)),
+        (3_600, 7_200),
+    );
     Ok(())
 }
 
