@@ -1,5 +1,5 @@
 -- A duration is a whole number of nanoseconds. Its seconds and days are whole ones, rounded towards zero.
-use Rattle.std.specs.Prelude.{◌≡◌, ◌≢◌, ◌≤◌, ◌⊎◌, ℤ, pos, neg_ℤ, ◌+ℤ◌, ◌*ℤ◌, ◌≤ℤ◌, ◌<ℤ◌, int_div, int_rem, unsigned_abs, Option, SomeIff}
+use Rattle.std.specs.Prelude.{◌≡◌, ◌≢◌, ◌≤◌, ◌⊎◌, ℕ, ℤ, pos, neg_ℤ, ◌+ℤ◌, ◌-ℤ◌, ◌*ℤ◌, ◌≤ℤ◌, ◌<ℤ◌, int_div, int_rem, unsigned_abs, Option, SomeIff}
 use Rattle.calendar_values.specs.Clock.{nanos_per_microsecond, nanos_per_millisecond, nanos_per_second, nanos_per_minute, nanos_per_hour, nanos_per_day}
 use Rattle.calendar_values.specs.Clock.{nanos_per_week}
 
@@ -28,6 +28,13 @@ pub record IsNearestDuration (d n : ℤ) : Type 0 where
   pub exact : IsDuration d → n ≡ d
   pub at_the_end : greatest_duration <ℤ d → n ≡ greatest_duration
   pub at_the_beginning : d <ℤ least_duration → n ≡ least_duration
+
+-- d is how much later the first time of day is than the second: less than a day either way
+pub record IsTimeDifference (first second : ℕ) (d : ℤ) : Type 0 where
+  pub value : d ≡ pos first -ℤ pos second
+  pub above : neg_ℤ (pos nanos_per_day) <ℤ d
+  pub below : d <ℤ pos nanos_per_day
+  pub in_range : IsDuration d
 
 -- the number is not 0, and the duration divided by it, rounded towards zero, is a duration
 abbrev pub HasQuotient : ℤ → ℤ → Type 0

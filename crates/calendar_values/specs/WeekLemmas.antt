@@ -61,6 +61,10 @@ IsDay-thursday_of n h = (omega (arith, signed_arith, weekday_of-parts n, h.0), o
 pub weekday_of-days_later : (n : ℤ) (k : ℕ) → weekday_of (n +ℤ pos k) ≡ (weekday_of n + k) % 7
 weekday_of-days_later n k = weekday_of-add n (n +ℤ pos k) k refl
 
+-- the weekday k days earlier: 6 days on for each
+pub weekday_of-days_earlier : (n : ℤ) (k : ℕ) → weekday_of (n -ℤ pos k) ≡ (weekday_of n + 6 * k) % 7
+weekday_of-days_earlier n k = omega (arith, signed_arith, weekday_of-parts n, weekday_of-parts (n -ℤ pos k))
+
 -- a week later, or earlier, is the same day of the week
 pub weekday_of-week_later : (a b : ℤ) → b ≡ a +ℤ pos 7 → weekday_of b ≡ weekday_of a
 weekday_of-week_later a b e = omega (arith, weekday_of-add a b 7 e, weekday_of-bound a)

@@ -381,3 +381,76 @@ fn formats_pad_the_text(rt: HostRuntime) -> Result<(), Fail> {
     );
     Ok(())
 }
+
+#[test]
+fn days_of_a_name_are_found(rt: HostRuntime) -> Result<(), Fail> {
+    let wednesday = date(2023, 6, 28)?;
+    // As Python's `datetime` has them: the days to the next, and those from the last.
+    for (weekday, ahead, behind) in [
+        (Weekday::Monday, 5, 2),
+        (Weekday::Tuesday, 6, 1),
+        (Weekday::Wednesday, 7, 7),
+        (Weekday::Thursday, 1, 6),
+        (Weekday::Friday, 2, 5),
+        (Weekday::Saturday, 3, 4),
+        (Weekday::Sunday, 4, 3),
+    ] {
+        let next = wednesday.checked_next_occurrence(weekday);
+        let third = wednesday.checked_nth_next_occurrence(weekday, 3);
+        is(&rt, next, wednesday.checked_add_days(ahead));
+        is(&rt, third, wednesday.checked_add_days(ahead + 14));
+        let previous = wednesday.checked_prev_occurrence(weekday);
+        let third = wednesday.checked_nth_prev_occurrence(weekday, 3);
+        is(&rt, previous, wednesday.checked_add_days(-behind));
+        is(&rt, third, wednesday.checked_add_days(-behind - 14));
+    }
+    Ok(())
+}
+
+#[test]
+fn days_of_a_name_end_with_the_range(rt: HostRuntime) {
+    let (first, last) = (Date::MIN, Date::MAX);
+    is(&rt, last.checked_next_occurrence(Weekday::Friday), None);
+    is(&rt, first.checked_prev_occurrence(Weekday::Monday), None);
+    is(
+        &rt,
+        first.checked_next_occurrence(Weekday::Monday),
+        first.checked_add_days(7),
+    );
+    is(
+        &rt,
+        last.checked_nth_prev_occurrence(Weekday::Friday, 255),
+        last.checked_add_days(-1785),
+    );
+    is(
+        &rt,
+        first.checked_nth_next_occurrence(Weekday::Friday, 0),
+        None,
+    );
+    is(
+        &rt,
+        last.checked_nth_prev_occurrence(Weekday::Friday, 0),
+        None,
+    );
+}
+
+#[test]
+fn days_of_a_name_in_range_are_given(rt: HostRuntime) {
+    let (start, monday) = (Date::UNIX_EPOCH, Weekday::Monday);
+    let next = start.checked_next_occurrence(monday);
+    if next.is_some() {
+        is(&rt, Some(start.next_occurrence(monday)), next);
+    }
+    let previous = start.checked_prev_occurrence(monday);
+    if previous.is_some() {
+        is(&rt, Some(start.prev_occurrence(monday)), previous);
+    }
+    let second = start.checked_nth_next_occurrence(monday, 2);
+    if second.is_some() {
+        is(&rt, Some(start.nth_next_occurrence(monday, 2)), second);
+    }
+    let second = start.checked_nth_prev_occurrence(monday, 2);
+    if second.is_some() {
+        is(&rt, Some(start.nth_prev_occurrence(monday, 2)), second);
+    }
+}

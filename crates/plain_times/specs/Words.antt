@@ -16,14 +16,16 @@ pub use Rattle.calendar_values.specs.CountParts.{is_count_name}
 pub use Rattle.calendar_values.specs.Dates.{IsCalendarDateOf, IsIsoWeekDateOf, IsOrdinalDateOf, ShowsDate, ShowsIsoWeekDate, ShowsOrdinalDate}
 pub use Rattle.calendar_values.specs.Digits.{text_capacity}
 unfoldable pub use Rattle.calendar_values.specs.Digits.{fraction_digits, last_digits}
-pub use Rattle.calendar_values.specs.Durations.{HasQuotient, IsDuration, IsDurationParts, IsNearestDuration, SomeDuration, duration_of_parts}
-pub use Rattle.calendar_values.specs.Durations.{greatest_duration, least_duration}
+pub use Rattle.calendar_values.specs.Durations.{HasQuotient, IsDuration, IsDurationParts, IsNearestDuration, IsTimeDifference, SomeDuration}
+pub use Rattle.calendar_values.specs.Durations.{duration_of_parts, greatest_duration, least_duration}
 unfoldable pub use Rattle.calendar_values.specs.Durations.{subsec_microseconds_of, subsec_milliseconds_of, subsec_nanoseconds_of, whole_days_of}
 unfoldable pub use Rattle.calendar_values.specs.Durations.{whole_hours_of, whole_microseconds_of, whole_milliseconds_of, whole_minutes_of}
 unfoldable pub use Rattle.calendar_values.specs.Durations.{whole_seconds_of, whole_weeks_of}
 pub use Rattle.calendar_values.specs.Month.{month_name, month_number}
 pub use Rattle.calendar_values.specs.Months.{day_or_last, month_index, month_of_index, year_of_index}
 unfoldable pub use Rattle.calendar_values.specs.Months.{first_of_month, last_of_month, months_later}
+pub use Rattle.calendar_values.specs.Occurrences.{next_occurrence, nth_next_occurrence, nth_prev_occurrence, prev_occurrence}
+unfoldable pub use Rattle.calendar_values.specs.Occurrences.{days_to_weekday}
 pub use Rattle.calendar_values.specs.Offsets.{AreSignedOffsetParts, IsOffset, offset_outcome, offset_seconds_outcome, seconds_of_parts, with_sign_of}
 unfoldable pub use Rattle.calendar_values.specs.Offsets.{offset_hours_of, offset_minutes_of, offset_seconds_of}
 pub use Rattle.calendar_values.specs.Outcomes.{Gives, within}
@@ -55,9 +57,9 @@ pub use Rattle.std.specs.List.Sorted.{IsStableByKey, IsStrictlySortedBy}
 pub use Rattle.std.specs.Ordering.{as_partial_cmp, int_cmp, int_eq, nat_cmp, on}
 pub use Rattle.std.specs.Prelude.{All, Bool, Contains, Err, IfErr, IfNone, IfOk, IfSome, IsAscii, IsNone, IsOk, IsPermutation, IsSome, IsSorted}
 pub use Rattle.std.specs.Prelude.{IsSortedByKey, IsTrue, List, MatchResult, None, Ok, OkIff, OnErr, OnOk, Some, SomeIff, [], codes, decimal, drop}
-pub use Rattle.std.specs.Prelude.{false, if◌then◌else◌, int_div, is_ok, length, map, min, nat_lt, neg_ℤ, negsuc, not, option_map, pos, take, true}
-pub use Rattle.std.specs.Prelude.{unsigned_abs, vec_capacity, vec_len, ℕ, ℤ, ⊤, ◌%◌, ◌&&◌, ◌*ℤ◌, ◌*◌, ◌++◌, ◌+ℤ◌, ◌+◌, ◌-ℤ◌, ◌-◌, ◌/◌, ◌<ℤ◌, ◌<◌}
-pub use Rattle.std.specs.Prelude.{◌==◌, ◌^◌, ◌||◌, ◌↔◌, ◌∷◌, ◌≡◌, ◌≢◌, ◌≤ℤ◌, ◌≤◌, ◌⊎◌}
+pub use Rattle.std.specs.Prelude.{false, filter, if◌then◌else◌, int_div, int_le, int_lt, is_ok, length, map, min, nat_lt, neg_ℤ, negsuc, not}
+pub use Rattle.std.specs.Prelude.{option_map, pos, take, true, unsigned_abs, vec_capacity, vec_len, ℕ, ℤ, ⊤, ◌%◌, ◌&&◌, ◌*ℤ◌, ◌*◌, ◌++◌, ◌+ℤ◌, ◌+◌}
+pub use Rattle.std.specs.Prelude.{◌-ℤ◌, ◌-◌, ◌/◌, ◌<ℤ◌, ◌<◌, ◌==◌, ◌^◌, ◌||◌, ◌↔◌, ◌∷◌, ◌≡◌, ◌≢◌, ◌≤ℤ◌, ◌≤◌, ◌⊎◌}
 pub use Rattle.std.specs.Result.{result_map_both}
 pub use Rattle.calendar_values.specs.declared.month.Month.TheVariants.{April, August, December, February, January, July, June, March, May, November}
 pub use Rattle.calendar_values.specs.declared.month.Month.TheVariants.{October, September}

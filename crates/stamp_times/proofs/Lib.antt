@@ -2,6 +2,7 @@ pub mod ExtremeByKeyLemmas
 pub mod FarInsideLemmas
 pub mod FirstByKeyLemmas
 pub mod HeldInstantLemmas
+pub mod LogCutLemmas
 pub mod LogSearchLemmas
 pub mod MomentLemmas
 pub mod OutcomeLemmas
@@ -9,4 +10,5 @@ pub mod RunLemmas
 pub mod TimestampOrderLemmas
 pub mod TimestampSumLemmas
 pub mod TimestampTextLemmas
+pub mod TimestampTruncationLemmas
 pub mod TravelLemmas

@@ -231,7 +231,7 @@ ContainsByKey-joined key xs ys zs x e found = in_one (rw e at found)
 
 -- ---- the last of a list in order
 
-rises : {X : Type 0} (key : X → ℤ) (xs : List X) → IsSortedByKey key int_cmp xs → (j k : ℕ) (d : X) → k + j < length xs
+pub rises : {X : Type 0} (key : X → ℤ) (xs : List X) → IsSortedByKey key int_cmp xs → (j k : ℕ) (d : X) → k + j < length xs
     → key (get_or xs k d) ≤ℤ key (get_or xs (k + j) d)
 rises key xs h zero k d within =
     let here : k + 0 ≡ k = omega arith in rw here (omega (arith, ints))

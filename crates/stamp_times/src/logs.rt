@@ -1,6 +1,6 @@
 //! Logs: timestamps in the order of time.
 ghost use Rattle.std.specs.Prelude.{◌≡◌, ◌≢◌, ◌<◌, ◌↔◌, ◌⊎◌, ◌≤ℤ◌, ℤ, [], All, Contains, IfNone, IfOk, IfSome, IsNone, IsTrue, IsPermutation, IsSorted};
-ghost use Rattle.std.specs.Prelude.{IsSortedByKey, OnOk, OnErr, length};
+ghost use Rattle.std.specs.Prelude.{◌++◌, ◌<ℤ◌, IsSortedByKey, OnOk, OnErr, filter, int_le, int_lt, length};
 ghost use Rattle.std.specs.List.{HoldsAt};
 ghost use Rattle.std.specs.List.Sorted.{IsStrictlySortedBy, IsStableByKey};
 ghost use Rattle.std.specs.Ordering.{int_cmp, on};
@@ -113,6 +113,48 @@ pub fn earliest(stamps: &[Timestamp]) -> Option<Timestamp>
     ensures none_earlier { IfSome result (λ earliest. All (λ at. earliest ≤ℤ at) stamps.now) }
 {
     moment_logs::earliest(stamps)
+}
+
+/// The entries before an instant, of a log that is in order.
+pub fn before(log: &[Timestamp], at: Timestamp) -> &[Timestamp]
+    requires { IsSorted int_cmp log.now }
+    ensures exact { result.now ≡ filter (λ entry. int_lt entry at) log.now }
+    ensures each { All (λ entry. entry <ℤ at) result.now }
+    ensures in_order { IsSorted int_cmp result.now }
+{
+    moment_logs::before(log, at)
+}
+
+/// The entries at an instant and after it, of a log that is in order.
+pub fn from(log: &[Timestamp], at: Timestamp) -> &[Timestamp]
+    requires { IsSorted int_cmp log.now }
+    ensures exact { result.now ≡ filter (λ entry. int_le at entry) log.now }
+    ensures each { All (λ entry. at ≤ℤ entry) result.now }
+    ensures in_order { IsSorted int_cmp result.now }
+{
+    moment_logs::from(log, at)
+}
+
+/// The entries before an instant, and the others, of a log that is in order.
+pub fn split_at(log: &[Timestamp], at: Timestamp) -> (&[Timestamp], &[Timestamp])
+    requires { IsSorted int_cmp log.now }
+    ensures whole { log.now ≡ result.0.now ++ result.1.now }
+    ensures before { result.0.now ≡ filter (λ entry. int_lt entry at) log.now }
+    ensures from { result.1.now ≡ filter (λ entry. int_le at entry) log.now }
+    ensures before_in_order { IsSorted int_cmp result.0.now }
+    ensures from_in_order { IsSorted int_cmp result.1.now }
+{
+    moment_logs::split_at(log, at)
+}
+
+/// Takes the entries before an instant out of a log. Those that stay keep their order.
+pub fn drop_before(log: &mut Vec<Timestamp>, at: Timestamp)
+    ensures exact { log.new.items ≡ filter (λ entry. int_le at entry) log.old.items }
+    ensures each { All (λ entry. at ≤ℤ entry) log.new.items }
+    ensures in_order { IsStrictlySortedBy int_cmp log.old.items →
+        IsStrictlySortedBy int_cmp log.new.items }
+{
+    moment_logs::drop_before(log, at)
 }
 
 /// A record that has a timestamp.

@@ -1,6 +1,6 @@
 //! Logs of instants of any type, in the order of time. Values of one instant count as one entry.
 ghost use Rattle.std.specs.Prelude.{◌≡◌, ◌≢◌, ◌<◌, ◌↔◌, ◌⊎◌, ◌≤ℤ◌, ◌+◌, ◌-◌, ◌++◌, ◌∷◌, ℕ, [], All, Contains, IfNone, IfOk, IfSome, IsNone};
-ghost use Rattle.std.specs.Prelude.{IsSortedByKey, IsTrue, OnErr, OnOk, Some, drop, false, length, take};
+ghost use Rattle.std.specs.Prelude.{IsSortedByKey, IsTrue, OnErr, OnOk, Some, ◌<ℤ◌, ◌≤◌, drop, false, filter, int_le, int_lt, length, take};
 ghost use Rattle.std.specs.List.{HoldsAt};
 ghost use Rattle.std.specs.List.Sorted.{IsStrictlySortedBy};
 ghost use Rattle.std.specs.Ordering.{int_cmp, on};
@@ -166,4 +166,51 @@ pub fn earliest<M: Moment>(instants: &[M]) -> Option<M>
         first_by_key M.instant instants.now earliest ≡ Some earliest) }
 {
     instants.iter().copied().min()
+}
+
+/// Returns the entries before an instant, of a log that is in order.
+pub fn before<M: Moment>(log: &[M], at: M) -> &[M]
+    requires { IsSortedByKey M.instant int_cmp log.now }
+    ensures exact { result.now ≡
+        filter (λ entry. int_lt (M.instant entry) (M.instant at)) log.now }
+    ensures each { All (λ entry. M.instant entry <ℤ M.instant at) result.now }
+    ensures in_order { IsSortedByKey M.instant int_cmp result.now }
+{
+    split_at(log, at).0
+}
+
+/// Returns the entries at an instant and after it, of a log that is in order.
+pub fn from<M: Moment>(log: &[M], at: M) -> &[M]
+    requires { IsSortedByKey M.instant int_cmp log.now }
+    ensures exact { result.now ≡
+        filter (λ entry. int_le (M.instant at) (M.instant entry)) log.now }
+    ensures each { All (λ entry. M.instant at ≤ℤ M.instant entry) result.now }
+    ensures in_order { IsSortedByKey M.instant int_cmp result.now }
+{
+    split_at(log, at).1
+}
+
+/// Returns the entries before an instant, and the others, of a log that is in order.
+pub fn split_at<M: Moment>(log: &[M], at: M) -> (&[M], &[M])
+    requires { IsSortedByKey M.instant int_cmp log.now }
+    ensures whole { log.now ≡ result.0.now ++ result.1.now }
+    ensures before { result.0.now ≡
+        filter (λ entry. int_lt (M.instant entry) (M.instant at)) log.now }
+    ensures from { result.1.now ≡
+        filter (λ entry. int_le (M.instant at) (M.instant entry)) log.now }
+    ensures before_in_order { IsSortedByKey M.instant int_cmp result.0.now }
+    ensures from_in_order { IsSortedByKey M.instant int_cmp result.1.now }
+{
+    log.split_at(log.partition_point(|entry| entry.cmp(&at).is_lt()))
+}
+
+/// Takes the entries before an instant out of a log. Those that stay keep their order.
+pub fn drop_before<M: Moment>(log: &mut Vec<M>, at: M)
+    ensures exact { log.new.items ≡
+        filter (λ entry. int_le (M.instant at) (M.instant entry)) log.old.items }
+    ensures each { All (λ entry. M.instant at ≤ℤ M.instant entry) log.new.items }
+    ensures in_order { IsStrictlySortedBy (on M.instant int_cmp) log.old.items →
+        IsStrictlySortedBy (on M.instant int_cmp) log.new.items }
+{
+    log.retain(|entry| entry.cmp(&at).is_ge());
 }

@@ -54,6 +54,23 @@ fn last_of_a_log(rt: HostRuntime) -> Result<(), Fail> {
 }
 
 #[test]
+fn cut_at_an_instant(rt: HostRuntime) -> Result<(), Fail> {
+    let epoch = Timestamp::UNIX_EPOCH;
+    let mut log = [epoch, Timestamp::MAX, Timestamp::MIN, epoch].to_vec(rt.alloc())?;
+    log.sort()?;
+    is(&rt, logs::before(&log, epoch).len(), 1);
+    is(&rt, logs::from(&log, epoch).len(), 3);
+    let (before, from) = logs::split_at(&log, Timestamp::MAX);
+    is(&rt, (before.len(), from.len()), (3, 1));
+    let (before, from) = logs::split_at(&log, Timestamp::MIN);
+    is(&rt, (before.len(), from.len()), (0, 4));
+    logs::drop_before(&mut log, epoch);
+    is(&rt, log.len(), 3);
+    is(&rt, log.first().copied(), Some(epoch));
+    Ok(())
+}
+
+#[test]
 fn ends_of_what_stands_in_any_order(rt: HostRuntime) -> Result<(), Fail> {
     let stamps = [
         Timestamp::UNIX_EPOCH,

@@ -102,3 +102,18 @@ fn no_instants(rt: HostRuntime) -> Result<(), Fail> {
     is(&rt, moment_logs::find(&[], UtcDateTime::UNIX_EPOCH), None);
     Ok(())
 }
+
+#[test]
+fn cut_at_an_instant(rt: HostRuntime) -> Result<(), Fail> {
+    let epoch = UtcDateTime::UNIX_EPOCH;
+    let mut log = [epoch, UtcDateTime::MAX, UtcDateTime::MIN, epoch].to_vec(rt.alloc())?;
+    log.sort()?;
+    is(&rt, moment_logs::before(&log, epoch).len(), 1);
+    is(&rt, moment_logs::from(&log, epoch).len(), 3);
+    let (before, from) = moment_logs::split_at(&log, UtcDateTime::from_unix_timestamp(1)?);
+    is(&rt, (before.len(), from.len()), (3, 1));
+    moment_logs::drop_before(&mut log, epoch);
+    is(&rt, log.len(), 3);
+    is(&rt, log.first().copied(), Some(epoch));
+    Ok(())
+}

@@ -203,6 +203,23 @@ fn reads_of_the_time(rt: HostRuntime) -> Result<(), Fail> {
 }
 
 #[test]
+fn truncations_round_down(rt: HostRuntime) -> Result<(), Fail> {
+    let early = Timestamp::new(-1, 500_300_002)?;
+    is(&rt, early.truncate_to_day(), Timestamp::new(-86_400, 0)?);
+    is(&rt, early.truncate_to_hour(), Timestamp::new(-3_600, 0)?);
+    is(&rt, early.truncate_to_minute(), Timestamp::new(-60, 0)?);
+    is(&rt, early.truncate_to_second(), Timestamp::new(-1, 0)?);
+    let (millisecond, microsecond) = (
+        Timestamp::new(-1, 500_000_000)?,
+        Timestamp::new(-1, 500_300_000)?,
+    );
+    is(&rt, early.truncate_to_millisecond(), millisecond);
+    is(&rt, early.truncate_to_microsecond(), microsecond);
+    is(&rt, Timestamp::MIN.truncate_to_day(), Timestamp::MIN);
+    Ok(())
+}
+
+#[test]
 fn replacements(rt: HostRuntime) -> Result<(), Fail> {
     let at = Timestamp::from_seconds(1_546_398_245)?;
     let leap_day = Timestamp::from_seconds(951_782_400)?;

@@ -1,5 +1,5 @@
 //! The difference of two times of day.
-ghost use Rattle.std.specs.Prelude.{◌≡◌, ◌-◌, pos, ◌-ℤ◌};
+ghost use Rattle.calendar_values.specs.Durations.{IsTimeDifference};
 
 use crate::{SignedDuration, Time};
 use std::ops::Sub;
@@ -7,7 +7,7 @@ use std::ops::Sub;
 impl Sub for Time {
     type Output = SignedDuration;
 
-    ghost sub_gives = { λ a b difference. difference ≡ pos a -ℤ pos b };
+    ghost sub_gives = { λ a b difference. IsTimeDifference a b difference };
 
     fn sub(self, other: Time) -> SignedDuration {
         SignedDuration::nanoseconds(
