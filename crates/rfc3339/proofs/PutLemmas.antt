@@ -1,5 +1,5 @@
 -- Bytes that are put at the front of others, one piece after another.
-use Rattle.std.proofs.Common.{◌≡◌, ◌≤◌, ◌<◌, ℕ, pos, Bool, true, false, nat_eq, ◌&&◌, ◌+◌, ◌*◌, ◌/◌, ◌%◌, List, [], ◌++◌, length, take, drop, refl}
+use Rattle.std.proofs.Common.{◌≡◌, ◌≤◌, ◌<◌, ℕ, pos, Bool, true, false, nat_eq, ◌&&◌, ◌+◌, ◌*◌, ◌/◌, ◌%◌, List, [], ◌∷◌, ◌++◌, length, take, drop, refl}
 use Rattle.std.proofs.Common.{sym, ap, ◌∙◌, arith, append_assoc, append-nil, length-append}
 use Rattle.std.proofs.Common.{unsigned_abs}
 use Rattle.std.proofs.lemmas.Bool.Decides.{nat_tests}
@@ -90,19 +90,49 @@ pub length-wall_text : (p : Parts) → length (wall_text p) ≡ 19
 unfolding wall_text
 length-wall_text p = simp (length-append, length-last_digits) refl
 
+-- two digits of the century and two of the year in it
+digits_of-year : (y : ℕ) → y ≤ 9_999 → last_digits 2 (y / 100) ++ last_digits 2 (y % 100) ≡ last_digits 4 y
+unfolding last_digits
+digits_of-year y high = grind arith
+
+-- the date and the time of day, put one part after another
+pub put_wall_parts : (p : Parts) (old first second third fourth fifth sixth seventh : List ℕ) → p.year ≤ 9_999
+    → first ≡ take 0 old ++ last_digits 2 (p.year / 100) ++ drop 2 old
+    → second ≡ take 2 first ++ last_digits 2 (p.year % 100) ++ drop 4 first
+    → third ≡ take 4 second ++ (45 ∷ last_digits 2 p.month) ++ drop 7 second
+    → fourth ≡ take 7 third ++ (45 ∷ last_digits 2 p.day) ++ drop 10 third
+    → fifth ≡ take 10 fourth ++ (84 ∷ last_digits 2 p.hour) ++ drop 13 fourth
+    → sixth ≡ take 13 fifth ++ (58 ∷ last_digits 2 p.minute) ++ drop 16 fifth
+    → seventh ≡ take 16 sixth ++ (58 ∷ last_digits 2 p.second) ++ drop 19 sixth → seventh ≡ wall_text p ++ drop 19 old
+unfolding wall_text last_digits
+put_wall_parts p old first second third fourth fifth sixth seventh high e1 e2 e3 e4 e5 e6 e7 =
+    let century = last_digits 2 (p.year / 100) in
+    let year = last_digits 2 (p.year % 100) in
+    let month = 45 ∷ last_digits 2 p.month in
+    let day = 45 ∷ last_digits 2 p.day in
+    let hour = 84 ∷ last_digits 2 p.hour in
+    let minute = 58 ∷ last_digits 2 p.minute in
+    let second_of = 58 ∷ last_digits 2 p.second in
+    let h1 = put_next [] century old old first 0 2 refl refl e1 refl in
+    let h2 = put_next century year old first second 2 4 h1 refl e2 refl in
+    let h3 = put_next (century ++ year) month old second third 4 7 h2 refl e3 refl in
+    let h4 = put_next ((century ++ year) ++ month) day old third fourth 7 10 h3 refl e4 refl in
+    let h5 = put_next (((century ++ year) ++ month) ++ day) hour old fourth fifth 10 13 h4 refl e5 refl in
+    let h6 = put_next ((((century ++ year) ++ month) ++ day) ++ hour) minute old fifth sixth 13 16 h5 refl e6 refl in
+    let h7 = put_next (((((century ++ year) ++ month) ++ day) ++ hour) ++ minute) second_of old sixth seventh 16 19 h6 refl e7 refl in
+    h7 ∙ ap (λ (digits : List ℕ). digits ++ month ++ day ++ hour ++ minute ++ second_of ++ drop 19 old) (digits_of-year p.year high)
+
 -- its pieces, put one after another
-pub put_all : (p : Parts) (old first second third : List ℕ) (after_wall after_fraction end : ℕ) → AreInRange p → p.nanosecond ≤ 999_999_999
-    → first ≡ take 0 old ++ wall_text p ++ drop after_wall old → after_wall ≡ 0 + length (wall_text p)
+pub put_all : (p : Parts) (old first second third : List ℕ) (after_fraction end : ℕ) → AreInRange p → p.nanosecond ≤ 999_999_999
+    → first ≡ wall_text p ++ drop 19 old
     → second ≡ take 19 first ++ fraction_text p.nanosecond ++ drop after_fraction first → after_fraction ≡ 19 + length (fraction_text p.nanosecond)
     → third ≡ take after_fraction second ++ time_offset_text (offset_of p.is_west p.offset_hour p.offset_minute) ++ drop end second
     → end ≡ after_fraction + length (time_offset_text (offset_of p.is_west p.offset_hour p.offset_minute))
     → (third ≡ rfc3339_text (value_of p) ++ drop end old) × (end ≡ length (rfc3339_text (value_of p)))
-put_all p old first second third after_wall after_fraction end r n e1 s1 e2 s2 e3 s3 =
+put_all p old first second third after_fraction end r n wall e2 s2 e3 s3 =
     let fraction = fraction_text p.nanosecond in
     let offset = time_offset_text (offset_of p.is_west p.offset_hour p.offset_minute) in
     let nineteen = length-wall_text p in
-    let after : after_wall ≡ 19 = omega (arith, s1, nineteen) in
-    let wall = rw after at (put_next [] (wall_text p) old old first 0 after_wall refl refl e1 s1) in
     let more = put_next (wall_text p) fraction old first second 19 after_fraction wall nineteen e2 s2 in
     let size : length (wall_text p ++ fraction) ≡ after_fraction = omega (arith, length-append (wall_text p) fraction, nineteen, s2) in
     let text = text_of_parts p r n in

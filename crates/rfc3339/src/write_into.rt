@@ -1,5 +1,5 @@
 //! Texts written into bytes of the caller's.
-ghost use Rattle.std.specs.Prelude.{◌≡◌, ◌≤◌, ◌<◌, ◌+◌, ◌++◌, length, take, drop, codes, if◌then◌else◌};
+ghost use Rattle.std.specs.Prelude.{◌≡◌, ◌≤◌, ◌<◌, ◌+◌, ◌++◌, ◌∷◌, length, take, drop, codes, if◌then◌else◌};
 ghost use Rattle.calendar_values.specs.Digits.{last_digits, fraction_digits};
 ghost use Rattle.rfc3339.specs.Meaning.{offset_of, value_of, AreInRange};
 ghost use Rattle.rfc3339.specs.Texts.{time_offset_text, rfc3339_text};
@@ -26,7 +26,7 @@ pub fn write_rfc3339_parts(parts: Parts, bytes: &mut [u8]) -> usize
     ensures length { result ≡ length (rfc3339_text (value_of parts)) }
     ensures at_most { result ≤ 35 }
 {
-    write_at(bytes, 0, &wall_bytes(parts));
+    put_wall(bytes, parts);
     let end = put_fraction(bytes, 19, parts.nanosecond);
     put_offset(
         bytes,
@@ -37,46 +37,48 @@ pub fn write_rfc3339_parts(parts: Parts, bytes: &mut [u8]) -> usize
     )
 }
 
-// A date, a `T` and a time of day to the second.
-#[tactic(auto, unfolding(crate::specs::Walls::wall_text, calendar_values::specs::Digits::last_digits))]
+// Puts a date, a `T` and a time of day to the second in front. Two digits are stored at once.
 #[inline(always)]
-fn wall_bytes(parts: Parts) -> [u8; 19]
+fn put_wall(bytes: &mut [u8], parts: Parts)
     requires year { parts.year ≤ 9_999 }
     requires month { parts.month < 100 }
     requires day { parts.day < 100 }
     requires hour { parts.hour < 100 }
     requires minute { parts.minute < 100 }
     requires second { parts.second < 100 }
-    ensures { result ≡ wall_text parts }
+    requires room { 19 ≤ length bytes.old }
+    ensures { bytes.new ≡ wall_text parts ++ drop 19 bytes.old }
 {
-    let [thousands, hundreds] = pair((parts.year / 100) as u8);
-    let [tens, units] = pair((parts.year % 100) as u8);
-    let [month_tens, month] = pair(parts.month);
-    let [day_tens, day] = pair(parts.day);
-    let [hour_tens, hour] = pair(parts.hour);
-    let [minute_tens, minute] = pair(parts.minute);
-    let [second_tens, second] = pair(parts.second);
-    [
-        thousands,
-        hundreds,
-        tens,
-        units,
-        b'-',
-        month_tens,
-        month,
-        b'-',
-        day_tens,
-        day,
-        b'T',
-        hour_tens,
-        hour,
-        b':',
-        minute_tens,
-        minute,
-        b':',
-        second_tens,
-        second,
-    ]
+    put_pair(bytes, 0, (parts.year / 100) as u8);
+    put_pair(bytes, 2, (parts.year % 100) as u8);
+    put_part(bytes, 4, b'-', parts.month);
+    put_part(bytes, 7, b'-', parts.day);
+    put_part(bytes, 10, b'T', parts.hour);
+    put_part(bytes, 13, b':', parts.minute);
+    put_part(bytes, 16, b':', parts.second);
+}
+
+// Puts a mark and two digits at a place.
+#[inline(always)]
+fn put_part(bytes: &mut [u8], place: usize, mark: u8, number: u8)
+    requires number { number < 100 }
+    requires room { place + 3 ≤ length bytes.old }
+    ensures { bytes.new ≡ take place bytes.old ++ (mark ∷ last_digits 2 number)
+        ++ drop (place + 3) bytes.old }
+{
+    write_at(bytes, place, &[mark]);
+    put_pair(bytes, place + 1, number);
+}
+
+// Puts two digits at a place.
+#[inline(always)]
+fn put_pair(bytes: &mut [u8], place: usize, number: u8)
+    requires number { number < 100 }
+    requires room { place + 2 ≤ length bytes.old }
+    ensures { bytes.new ≡ take place bytes.old ++ last_digits 2 number
+        ++ drop (place + 2) bytes.old }
+{
+    write_at(bytes, place, &pair(number));
 }
 
 // Puts the fraction at a place, if there is one, and returns the place after it.
