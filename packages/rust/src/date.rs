@@ -1,122 +1,8 @@
 //! Days by more of `time`'s names.
 
-use crate::{Date, PlainDateTime, RangeResult, SignedDuration, Time, Weekday};
+use crate::{Date, PlainDateTime, RangeResult, SignedDuration, Time};
 
 impl Date {
-    /// The day of the week that comes next after this day, if the range has it.
-    ///
-    /// ```
-    /// use muxandu::macros::date;
-    /// use muxandu::{Date, Weekday};
-    ///
-    /// let monday = date!(2023-06-28).checked_next_occurrence(Weekday::Monday);
-    /// assert_eq!(monday, Some(date!(2023-07-03)));
-    /// assert_eq!(Date::MAX.checked_next_occurrence(Weekday::Monday), None);
-    /// ```
-    #[must_use]
-    pub const fn checked_next_occurrence(self, weekday: Weekday) -> Option<Date> {
-        self.checked_add_days(self.weekday().days_to_next(weekday))
-    }
-
-    /// The day of the week that came last before this day, if the range has it.
-    ///
-    /// ```
-    /// use muxandu::macros::date;
-    /// use muxandu::{Date, Weekday};
-    ///
-    /// let monday = date!(2023-06-28).checked_prev_occurrence(Weekday::Monday);
-    /// assert_eq!(monday, Some(date!(2023-06-26)));
-    /// assert_eq!(Date::MIN.checked_prev_occurrence(Weekday::Monday), None);
-    /// ```
-    #[must_use]
-    pub const fn checked_prev_occurrence(self, weekday: Weekday) -> Option<Date> {
-        self.checked_add_days(-weekday.days_to_next(self.weekday()))
-    }
-
-    /// The day of the week that comes next after this day.
-    ///
-    /// ```
-    /// use muxandu::Weekday::Monday;
-    /// use muxandu::macros::date;
-    ///
-    /// assert_eq!(date!(2023-06-28).next_occurrence(Monday), date!(2023-07-03));
-    /// assert_eq!(date!(2023-06-28).prev_occurrence(Monday), date!(2023-06-26));
-    /// assert_eq!(date!(2023-06-26).nth_next_occurrence(Monday, 5), date!(2023-07-31));
-    /// assert_eq!(date!(2023-06-27).nth_prev_occurrence(Monday, 5), date!(2023-05-29));
-    /// ```
-    ///
-    /// # Panics
-    ///
-    /// The range does not have it.
-    #[must_use]
-    #[track_caller]
-    pub const fn next_occurrence(self, weekday: Weekday) -> Date {
-        self.nth_next_occurrence(weekday, 1)
-    }
-
-    /// The day of the week that came last before this day.
-    ///
-    /// ```
-    /// use muxandu::macros::date;
-    /// use muxandu::Weekday::Monday;
-    ///
-    /// assert_eq!(date!(2023-06-26).prev_occurrence(Monday), date!(2023-06-19));
-    /// ```
-    ///
-    /// # Panics
-    ///
-    /// The range does not have it.
-    #[must_use]
-    #[track_caller]
-    pub const fn prev_occurrence(self, weekday: Weekday) -> Date {
-        self.nth_prev_occurrence(weekday, 1)
-    }
-
-    /// The `n`th day of the week after this day.
-    ///
-    /// ```
-    /// use muxandu::macros::date;
-    /// use muxandu::Weekday::Monday;
-    ///
-    /// assert_eq!(date!(2023-06-28).nth_next_occurrence(Monday, 2), date!(2023-07-10));
-    /// ```
-    ///
-    /// # Panics
-    ///
-    /// The range does not have it, or `n` is 0.
-    #[must_use]
-    #[track_caller]
-    pub const fn nth_next_occurrence(self, weekday: Weekday, n: u8) -> Date {
-        self.at_occurrence(self.weekday().days_to_next(weekday) + days_past_first(n))
-    }
-
-    /// The `n`th day of the week before this day.
-    ///
-    /// ```
-    /// use muxandu::macros::date;
-    /// use muxandu::Weekday::Monday;
-    ///
-    /// assert_eq!(date!(2023-06-28).nth_prev_occurrence(Monday, 2), date!(2023-06-19));
-    /// ```
-    ///
-    /// # Panics
-    ///
-    /// The range does not have it, or `n` is 0.
-    #[must_use]
-    #[track_caller]
-    pub const fn nth_prev_occurrence(self, weekday: Weekday, n: u8) -> Date {
-        self.at_occurrence(-weekday.days_to_next(self.weekday()) - days_past_first(n))
-    }
-
-    /// The day `days` later, which the range must have.
-    #[track_caller]
-    const fn at_occurrence(self, days: i64) -> Date {
-        match self.checked_add_days(days) {
-            Some(date) => date,
-            None => panic!("{}", NO_OCCURRENCE),
-        }
-    }
-
     /// The day later by the whole days of a duration, or the end of the range that it is beyond.
     ///
     /// ```
@@ -180,16 +66,6 @@ impl Date {
     pub const fn with_time(self, time: Time) -> PlainDateTime {
         PlainDateTime::new(self, time)
     }
-}
-
-const NO_OCCURRENCE: &str =
-    "the day is out of range: use `checked_next_occurrence` or `checked_prev_occurrence`";
-
-/// The days from the first of some days that are a week apart to the `n`th.
-#[track_caller]
-const fn days_past_first(n: u8) -> i64 {
-    assert!(n > 0, "the first occurrence has the number 1");
-    SignedDuration::weeks(n as i64 - 1).whole_days()
 }
 
 /// The day at the time of day that a call of `Time` makes.

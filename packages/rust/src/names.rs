@@ -68,11 +68,6 @@ impl Weekday {
         self as usize
     }
 
-    /// The days from this day of the week to the next day of another one: 1 to 7.
-    pub(crate) const fn days_to_next(self, other: Weekday) -> i64 {
-        behind(other.place(), self.number_from_monday(), WEEKDAYS.len()) as i64 + 1
-    }
-
     /// 1 for Monday to 7 for Sunday.
     ///
     /// ```

@@ -63,6 +63,14 @@ impl Timestamp {
     #[must_use]
     #[inline]
     pub fn truncated_to(self, unit: Unit) -> Timestamp {
-        OffsetDateTime::from(self).truncated_to(unit).to_timestamp()
+        match unit {
+            Unit::Day => self.truncate_to_day(),
+            Unit::Hour => self.truncate_to_hour(),
+            Unit::Minute => self.truncate_to_minute(),
+            Unit::Second => self.truncate_to_second(),
+            Unit::Millisecond => self.truncate_to_millisecond(),
+            Unit::Microsecond => self.truncate_to_microsecond(),
+            Unit::Nanosecond => self,
+        }
     }
 }

@@ -31,6 +31,14 @@ macro_rules! panics {
 panics! {
     component_range_new, "calendar_values/component_range.rt ComponentRange::new":
         ComponentRange::new("x", false);
+    date_next_occurrence, "calendar_values/date/occurrences.rt Date::next_occurrence":
+        Date::MAX.next_occurrence(Weekday::Friday);
+    date_prev_occurrence, "calendar_values/date/occurrences.rt Date::prev_occurrence":
+        Date::MIN.prev_occurrence(Weekday::Monday);
+    date_nth_next_occurrence, "calendar_values/date/occurrences.rt Date::nth_next_occurrence":
+        Date::UNIX_EPOCH.nth_next_occurrence(Weekday::Friday, 0);
+    date_nth_prev_occurrence, "calendar_values/date/occurrences.rt Date::nth_prev_occurrence":
+        Date::MIN.nth_prev_occurrence(Weekday::Monday, 1);
     duration_new, "calendar_values/signed_duration.rt SignedDuration::new":
         SignedDuration::new(i64::MAX, 1_000_000_000);
     duration_weeks, "calendar_values/signed_duration.rt SignedDuration::weeks":

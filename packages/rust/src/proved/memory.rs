@@ -100,6 +100,12 @@ impl<T> Vec<T> {
         self.0.truncate(len);
     }
 
+    /// Leaves the items that pass a test, in their order.
+    #[inline]
+    pub fn retain(&mut self, test: impl FnMut(&T) -> bool) {
+        self.0.retain(test);
+    }
+
     /// Leaves one of equal items that follow each other.
     #[inline]
     pub fn dedup(&mut self)

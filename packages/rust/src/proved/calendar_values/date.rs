@@ -10,6 +10,7 @@ use crate::proved::calendar_values::{
 };
 mod comparisons;
 mod months;
+mod occurrences;
 mod operators;
 mod reads;
 mod replacements;

@@ -182,6 +182,79 @@ pub fn earliest(stamps: &[Timestamp]) -> Option<Timestamp> {
     moment_logs::earliest(stamps)
 }
 
+/// The entries before an instant, of a log that is in order.
+///
+/// # Contract
+///
+/// ```text
+/// requires { IsSorted int_cmp log.now }
+/// ensures exact { result.now ≡ filter (λ entry. int_lt entry at) log.now }
+/// ensures each { All (λ entry. entry <ℤ at) result.now }
+/// ensures in_order { IsSorted int_cmp result.now }
+/// ```
+///
+/// [docs/proofs/STATEMENT.md](crate::proved#contracts) explains the words.
+#[inline]
+pub(in crate::proved) fn before(log: &[Timestamp], at: Timestamp) -> &[Timestamp] {
+    moment_logs::before(log, at)
+}
+
+/// The entries at an instant and after it, of a log that is in order.
+///
+/// # Contract
+///
+/// ```text
+/// requires { IsSorted int_cmp log.now }
+/// ensures exact { result.now ≡ filter (λ entry. int_le at entry) log.now }
+/// ensures each { All (λ entry. at ≤ℤ entry) result.now }
+/// ensures in_order { IsSorted int_cmp result.now }
+/// ```
+///
+/// [docs/proofs/STATEMENT.md](crate::proved#contracts) explains the words.
+#[inline]
+pub(in crate::proved) fn from(log: &[Timestamp], at: Timestamp) -> &[Timestamp] {
+    moment_logs::from(log, at)
+}
+
+/// The entries before an instant, and the others, of a log that is in order.
+///
+/// # Contract
+///
+/// ```text
+/// requires { IsSorted int_cmp log.now }
+/// ensures whole { log.now ≡ result.0.now ++ result.1.now }
+/// ensures before { result.0.now ≡ filter (λ entry. int_lt entry at) log.now }
+/// ensures from { result.1.now ≡ filter (λ entry. int_le at entry) log.now }
+/// ensures before_in_order { IsSorted int_cmp result.0.now }
+/// ensures from_in_order { IsSorted int_cmp result.1.now }
+/// ```
+///
+/// [docs/proofs/STATEMENT.md](crate::proved#contracts) explains the words.
+#[inline]
+pub(in crate::proved) fn split_at(
+    log: &[Timestamp],
+    at: Timestamp,
+) -> (&[Timestamp], &[Timestamp]) {
+    moment_logs::split_at(log, at)
+}
+
+/// Takes the entries before an instant out of a log. Those that stay keep their order.
+///
+/// # Contract
+///
+/// ```text
+/// ensures exact { log.new.items ≡ filter (λ entry. int_le at entry) log.old.items }
+/// ensures each { All (λ entry. at ≤ℤ entry) log.new.items }
+/// ensures in_order { IsStrictlySortedBy int_cmp log.old.items →
+///     IsStrictlySortedBy int_cmp log.new.items }
+/// ```
+///
+/// [docs/proofs/STATEMENT.md](crate::proved#contracts) explains the words.
+#[inline]
+pub fn drop_before(log: &mut crate::proved::memory::Vec<Timestamp>, at: Timestamp) {
+    moment_logs::drop_before(log, at)
+}
+
 /// A record that has a timestamp.
 ///
 /// # Contract

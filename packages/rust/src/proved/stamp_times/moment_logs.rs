@@ -229,3 +229,78 @@ pub fn latest<M: Moment>(instants: &[M]) -> Option<M> {
 pub fn earliest<M: Moment>(instants: &[M]) -> Option<M> {
     instants.iter().copied().min()
 }
+
+/// Returns the entries before an instant, of a log that is in order.
+///
+/// # Contract
+///
+/// ```text
+/// requires { IsSortedByKey M.instant int_cmp log.now }
+/// ensures exact { result.now ≡
+///     filter (λ entry. int_lt (M.instant entry) (M.instant at)) log.now }
+/// ensures each { All (λ entry. M.instant entry <ℤ M.instant at) result.now }
+/// ensures in_order { IsSortedByKey M.instant int_cmp result.now }
+/// ```
+///
+/// [docs/proofs/STATEMENT.md](crate::proved#contracts) explains the words.
+#[inline]
+pub(in crate::proved) fn before<M: Moment>(log: &[M], at: M) -> &[M] {
+    split_at(log, at).0
+}
+
+/// Returns the entries at an instant and after it, of a log that is in order.
+///
+/// # Contract
+///
+/// ```text
+/// requires { IsSortedByKey M.instant int_cmp log.now }
+/// ensures exact { result.now ≡
+///     filter (λ entry. int_le (M.instant at) (M.instant entry)) log.now }
+/// ensures each { All (λ entry. M.instant at ≤ℤ M.instant entry) result.now }
+/// ensures in_order { IsSortedByKey M.instant int_cmp result.now }
+/// ```
+///
+/// [docs/proofs/STATEMENT.md](crate::proved#contracts) explains the words.
+#[inline]
+pub(in crate::proved) fn from<M: Moment>(log: &[M], at: M) -> &[M] {
+    split_at(log, at).1
+}
+
+/// Returns the entries before an instant, and the others, of a log that is in order.
+///
+/// # Contract
+///
+/// ```text
+/// requires { IsSortedByKey M.instant int_cmp log.now }
+/// ensures whole { log.now ≡ result.0.now ++ result.1.now }
+/// ensures before { result.0.now ≡
+///     filter (λ entry. int_lt (M.instant entry) (M.instant at)) log.now }
+/// ensures from { result.1.now ≡
+///     filter (λ entry. int_le (M.instant at) (M.instant entry)) log.now }
+/// ensures before_in_order { IsSortedByKey M.instant int_cmp result.0.now }
+/// ensures from_in_order { IsSortedByKey M.instant int_cmp result.1.now }
+/// ```
+///
+/// [docs/proofs/STATEMENT.md](crate::proved#contracts) explains the words.
+#[inline]
+pub(in crate::proved) fn split_at<M: Moment>(log: &[M], at: M) -> (&[M], &[M]) {
+    log.split_at(log.partition_point(|entry| entry.cmp(&at).is_lt()))
+}
+
+/// Takes the entries before an instant out of a log. Those that stay keep their order.
+///
+/// # Contract
+///
+/// ```text
+/// ensures exact { log.new.items ≡
+///     filter (λ entry. int_le (M.instant at) (M.instant entry)) log.old.items }
+/// ensures each { All (λ entry. M.instant at ≤ℤ M.instant entry) log.new.items }
+/// ensures in_order { IsStrictlySortedBy (on M.instant int_cmp) log.old.items →
+///     IsStrictlySortedBy (on M.instant int_cmp) log.new.items }
+/// ```
+///
+/// [docs/proofs/STATEMENT.md](crate::proved#contracts) explains the words.
+#[inline]
+pub fn drop_before<M: Moment>(log: &mut crate::proved::memory::Vec<M>, at: M) {
+    log.retain(|entry| entry.cmp(&at).is_ge());
+}

@@ -8,6 +8,7 @@ mod reads;
 mod replacements;
 mod sums;
 mod texts;
+mod truncations;
 mod with_offset;
 mod with_utc;
 

@@ -6,7 +6,7 @@ use std::ops::Sub;
 /// # Contract
 ///
 /// ```text
-/// ghost sub_gives = { λ a b difference. difference ≡ pos a -ℤ pos b };
+/// ghost sub_gives = { λ a b difference. IsTimeDifference a b difference };
 /// ```
 ///
 /// [docs/proofs/STATEMENT.md](crate::proved#contracts) explains the words.
