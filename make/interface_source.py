@@ -188,7 +188,7 @@ class Interface:
         for parameter in parameters:
             if parameter["role"] == "room" and most:
                 parameter["most"] = int(most[0])
-            elif parameter["role"] == "room" and not any("items" in one["role"] for one in parameters):
+            elif parameter["role"] == "room" and not any("items" in one["role"] or one["role"] == "text" for one in parameters):
                 source.stop(at, "a clause `room` with the most bytes of its text")
         if result:
             self.used.append((source, at, result, "a number or a struct"))

@@ -78,6 +78,8 @@ OF_ONE_DESCRIPTION = ("format", "format_items", "parse", "parse_front")
 OF_ZONES = (
     *("zone_from_tzif", "zone_from_text", "zone_offset_at", "zone_offsets_at", "zone_instants_of"),
     *("zone_next_transition", "zone_previous_transition", "timestamp_to_zone", "date_time_at_zone"),
+    *("timestamps_to_zone", "date_times_at_zone", "zone_name_check", "zone_type_at"),
+    *("zone_abbreviation_from_tzif", "zone_abbreviation_from_text"),
 )
 
 # The parameters whose value a refusal is of, by the name of the refusal. The first that a call has is the one.

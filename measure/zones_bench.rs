@@ -26,50 +26,53 @@ fn in_order(seconds: &[i64]) -> Vec<i64> {
     sorted
 }
 
+/// A number of rounds, which gives a sum of what they gave. What it needs is made before.
+type Rounds = Box<dyn Fn(usize) -> i64>;
+
 /// What a call gives of each of these values in a ring.
-fn sum_of<T: Copy>(values: &[T], rounds: usize, call: impl Fn(T) -> i64) -> i64 {
-    (0..rounds).map(|n| call(black_box(values[n % COUNT]))).fold(0, i64::wrapping_add)
+fn sum_of<T: Copy + 'static>(values: Vec<T>, call: impl Fn(T) -> i64 + 'static) -> Rounds {
+    Box::new(move |rounds| (0..rounds).map(|n| call(black_box(values[n % COUNT]))).fold(0, i64::wrapping_add))
 }
 
-fn muxandu(call: &str, seconds: &[i64], rounds: usize) -> i64 {
+fn muxandu(call: &str, seconds: &[i64]) -> Rounds {
     use muxandu::zones::{LocalTimes, Zone};
-    use muxandu::{Timestamp, UtcDateTime, UtcOffset};
+    use muxandu::{PlainDateTime, Timestamp, UtcDateTime, UtcOffset};
 
     let zone = Zone::named("Europe/Berlin").unwrap();
     match call {
         "offset" => {
-            let values: Vec<_> = seconds.iter().map(|&it| Timestamp::from_seconds(it).unwrap()).collect();
-            sum_of(&values, rounds, |at| zone.offset_at(at).whole_seconds().into())
+            let values = seconds.iter().map(|&it| Timestamp::from_seconds(it).unwrap()).collect();
+            sum_of(values, move |at: Timestamp| zone.offset_at(at).whole_seconds().into())
         }
         "sorted" => {
             let values: Vec<_> = in_order(seconds).iter().map(|&it| Timestamp::from_seconds(it).unwrap()).collect();
             let sum = |offsets: Vec<UtcOffset>| offsets.iter().map(|it| i64::from(it.whole_seconds())).sum::<i64>();
-            (0..rounds / COUNT).map(|_| sum(zone.offsets_at(black_box(&values)))).sum()
+            Box::new(move |rounds| (0..rounds / COUNT).map(|_| sum(zone.offsets_at(black_box(&values)))).sum())
         }
         "local" => {
-            let values: Vec<_> = seconds.iter().map(|&it| UtcDateTime::from_unix_timestamp(it).unwrap().as_plain()).collect();
-            sum_of(&values, rounds, |wall| match wall.at_zone(&zone) {
+            let values = seconds.iter().map(|&it| UtcDateTime::from_unix_timestamp(it).unwrap().as_plain()).collect();
+            sum_of(values, move |wall: PlainDateTime| match wall.at_zone(&zone) {
                 LocalTimes::Single(at) | LocalTimes::Fold(at, _) => at.offset().whole_seconds().into(),
                 LocalTimes::Gap(..) => 0,
             })
         }
         _ => {
             let bytes = std::fs::read("/usr/share/zoneinfo/Europe/Berlin").unwrap();
-            (0..rounds).map(|_| i64::from(Zone::from_tzif(black_box(&bytes)).is_ok())).sum()
+            Box::new(move |rounds| (0..rounds).map(|_| i64::from(Zone::from_tzif(black_box(&bytes)).is_ok())).sum())
         }
     }
 }
 
-fn chrono(call: &str, seconds: &[i64], rounds: usize) -> i64 {
+fn chrono(call: &str, seconds: &[i64]) -> Rounds {
     use chrono::{LocalResult, NaiveDateTime, Offset, TimeZone};
 
     let zone = black_box(chrono_tz::Europe::Berlin);
     let sorted = in_order(seconds);
     let asked = if call == "sorted" { &sorted } else { seconds };
-    let values: Vec<_> = asked.iter().map(|&it| NaiveDateTime::from_timestamp_opt(it, 0).unwrap()).collect();
+    let values: Vec<NaiveDateTime> = asked.iter().map(|&it| NaiveDateTime::from_timestamp_opt(it, 0).unwrap()).collect();
     match call {
-        "offset" | "sorted" => sum_of(&values, rounds, |at| zone.offset_from_utc_datetime(&at).fix().local_minus_utc().into()),
-        _ => sum_of(&values, rounds, |wall| match zone.offset_from_local_datetime(&wall) {
+        "offset" | "sorted" => sum_of(values, move |at| zone.offset_from_utc_datetime(&at).fix().local_minus_utc().into()),
+        _ => sum_of(values, move |wall| match zone.offset_from_local_datetime(&wall) {
             LocalResult::Single(offset) | LocalResult::Ambiguous(offset, _) => offset.fix().local_minus_utc().into(),
             LocalResult::None => 0,
         }),
@@ -83,14 +86,14 @@ fn main() {
         "muxandu" => muxandu,
         _ => chrono,
     };
-    let seconds = seconds(from, until);
+    let run = run(&words[1], &seconds(from, until));
     if words.len() < 6 {
-        println!("{}", run(&words[1], &seconds, rounds as usize));
+        println!("{}", run(rounds as usize));
         return;
     }
     let quickest = (0..20).map(|_| {
         let begin = Instant::now();
-        black_box(run(&words[1], &seconds, rounds as usize));
+        black_box(run(rounds as usize));
         begin.elapsed().as_nanos() as f64 / rounds as f64
     });
     println!("{:.1}", quickest.fold(f64::INFINITY, f64::min));

@@ -687,6 +687,16 @@ typedef struct MuxanduZone {
     uint8_t second_is_daylight;
 } MuxanduZone;
 
+/* A kind of local time of a time zone. */
+typedef struct MuxanduTimeType {
+    /* The offset in seconds: -93599 to 93599. */
+    int32_t offset_seconds;
+    /* The number of the abbreviation. */
+    uint16_t designation;
+    /* 1 for daylight saving time, else 0. */
+    uint8_t is_daylight;
+} MuxanduTimeType;
+
 #if defined(__cplusplus) && __cplusplus >= 201103L
 #define MUXANDU_LAYOUT(name, holds) static_assert(sizeof(void *) != 8 || (holds), #name)
 #elif defined(__STDC_VERSION__) && __STDC_VERSION__ >= 201112L
@@ -798,6 +808,10 @@ MUXANDU_LAYOUT(MuxanduZone_second_month, offsetof(MuxanduZone, second_month) == 
 MUXANDU_LAYOUT(MuxanduZone_second_week, offsetof(MuxanduZone, second_week) == 39);
 MUXANDU_LAYOUT(MuxanduZone_second_weekday, offsetof(MuxanduZone, second_weekday) == 40);
 MUXANDU_LAYOUT(MuxanduZone_second_is_daylight, offsetof(MuxanduZone, second_is_daylight) == 41);
+MUXANDU_LAYOUT(MuxanduTimeType, sizeof(MuxanduTimeType) == 8);
+MUXANDU_LAYOUT(MuxanduTimeType_offset_seconds, offsetof(MuxanduTimeType, offset_seconds) == 0);
+MUXANDU_LAYOUT(MuxanduTimeType_designation, offsetof(MuxanduTimeType, designation) == 4);
+MUXANDU_LAYOUT(MuxanduTimeType_is_daylight, offsetof(MuxanduTimeType, is_daylight) == 6);
 #undef MUXANDU_LAYOUT
 
 /* The version of the library, a number like MUXANDU_VERSION. A library with a lower number lacks
@@ -2077,6 +2091,30 @@ MuxanduBatch muxandu_zone_offsets_at(MuxanduZone zone,
                                      int32_t *MUXANDU_RESTRICT out,
                                      size_t out_count) MUXANDU_NOEXCEPT;
 
+/* The date-time that the clocks of a time zone show at each timestamp, up to the first that
+ * muxandu_timestamp_to_zone rejects. Errors: BUFFER if 'out' has fewer items than 'timestamps',
+ * ZONE if the numbers are no zone. After these two nothing is written. Else the error is that of
+ * the first rejected item. */
+MUXANDU_NODISCARD MUXANDU_API
+MuxanduBatch muxandu_timestamps_to_zone(const MuxanduTimestamp *MUXANDU_RESTRICT timestamps,
+                                        size_t timestamps_count, MuxanduZone zone,
+                                        const MuxanduTransition *MUXANDU_RESTRICT transitions,
+                                        size_t transitions_count,
+                                        MuxanduDateTime *MUXANDU_RESTRICT out,
+                                        size_t out_count) MUXANDU_NOEXCEPT;
+
+/* The date-time of a time zone with the wall clock of each date-time, by a choice where there
+ * are two or none, up to the first that muxandu_date_time_at_zone rejects. Errors: BUFFER if
+ * 'out' has fewer items than 'locals', ZONE if the numbers are no zone. After these two nothing
+ * is written. Else the error is that of the first rejected item. */
+MUXANDU_NODISCARD MUXANDU_API
+MuxanduBatch muxandu_date_times_at_zone(const MuxanduDateTime *MUXANDU_RESTRICT locals,
+                                        size_t locals_count, MuxanduZone zone,
+                                        const MuxanduTransition *MUXANDU_RESTRICT transitions,
+                                        size_t transitions_count, MuxanduChoice choice,
+                                        MuxanduDateTime *MUXANDU_RESTRICT out,
+                                        size_t out_count) MUXANDU_NOEXCEPT;
+
 /* The instants at which the clocks of a time zone show the wall clock of a date-time: all of
  * them. The offset of the date-time does not count, but must be one. Errors, in this order:
  * those of the date-time, ZONE if the numbers are no zone. */
@@ -2096,6 +2134,13 @@ MuxanduStatus muxandu_date_time_at_zone(MuxanduDateTime local, MuxanduZone zone,
                                         const MuxanduTransition *MUXANDU_RESTRICT transitions,
                                         size_t transitions_count, MuxanduChoice choice,
                                         MuxanduDateTime *MUXANDU_RESTRICT out) MUXANDU_NOEXCEPT;
+
+/* Checks that a text can be the name of a time zone, such as 'America/Port-au-Prince'. A name
+ * has parts between slashes. Each part has letters, digits, '+', '-', '_' and '.', and begins
+ * with no '.'. So no name is an absolute path, or leads out of the folder with the files. Error:
+ * SYNTAX. */
+MUXANDU_NODISCARD MUXANDU_API
+MuxanduStatus muxandu_zone_name_check(const char *name, size_t name_count) MUXANDU_NOEXCEPT;
 
 /* The offset of a time zone at an instant, in seconds: that after the last transition at or
  * before it. Errors, in this order: those of the timestamp, ZONE if the numbers are no zone. */
@@ -2152,6 +2197,38 @@ MuxanduStatus muxandu_zone_previous_transition(MuxanduZone zone,
                                                const MuxanduTransition *MUXANDU_RESTRICT transitions,
                                                size_t transitions_count, MuxanduTimestamp at,
                                                MuxanduTransition *MUXANDU_RESTRICT out) MUXANDU_NOEXCEPT;
+
+/* The kind of local time of a time zone at an instant: that after the last transition at or
+ * before it. Errors, in this order: those of the timestamp, ZONE if the numbers are no zone. */
+MUXANDU_NODISCARD MUXANDU_API MUXANDU_NONNULL((5))
+MuxanduStatus muxandu_zone_type_at(MuxanduZone zone,
+                                   const MuxanduTransition *MUXANDU_RESTRICT transitions,
+                                   size_t transitions_count, MuxanduTimestamp at,
+                                   MuxanduTimeType *MUXANDU_RESTRICT out) MUXANDU_NOEXCEPT;
+
+/* Writes the abbreviation with a number, such as 'CEST', to the front of 'buffer'. The number is
+ * that of a kind of local time, and 'bytes' are the file from which muxandu_zone_from_tzif read
+ * the zone. 'size' is the length of the text: 0 for a number that the zone does not have.
+ * Errors, in this order: SYNTAX with the index of the byte and the reason if the bytes are no
+ * such file. BUFFER if the text is longer than 'buffer'; 'size' is then its length. After an
+ * error nothing is written. */
+MUXANDU_NODISCARD MUXANDU_API
+MuxanduOutcome muxandu_zone_abbreviation_from_tzif(const char *MUXANDU_RESTRICT bytes,
+                                                   size_t bytes_count, uint16_t designation,
+                                                   char *MUXANDU_RESTRICT buffer,
+                                                   size_t buffer_count) MUXANDU_NOEXCEPT;
+
+/* Writes the abbreviation with a number to the front of 'buffer'. The number is that of a kind
+ * of local time, and 'text' is the rule from which muxandu_zone_from_text read the zone. 'size'
+ * is the length of the abbreviation: 0 for a number that the zone does not have. Errors, in this
+ * order: SYNTAX with the index of the byte and the reason if the text is no rule. BUFFER if the
+ * abbreviation is longer than 'buffer'; 'size' is then its length. After an error nothing is
+ * written. */
+MUXANDU_NODISCARD MUXANDU_API
+MuxanduOutcome muxandu_zone_abbreviation_from_text(const char *MUXANDU_RESTRICT text,
+                                                   size_t text_count, uint16_t designation,
+                                                   char *MUXANDU_RESTRICT buffer,
+                                                   size_t buffer_count) MUXANDU_NOEXCEPT;
 
 /* The text of a status, as muxandu_status_text writes it, for a message. It stays, and ends with a
  * byte 0. Your compiler compiles this call and those that end with _z, and no proof covers them;

@@ -318,3 +318,17 @@ export const MuxanduZone = {
         view.setUint8(place + 41, secondIsDaylight);
     },
 };
+
+/** A kind of local time of a time zone. */
+export const MuxanduTimeType = {
+    get: (view, place) => ({
+        offsetSeconds: view.getInt32(place + 0, true),
+        designation: view.getUint16(place + 4, true),
+        isDaylight: view.getUint8(place + 6),
+    }),
+    put(view, place, { offsetSeconds, designation, isDaylight }) {
+        view.setInt32(place + 0, offsetSeconds, true);
+        view.setUint16(place + 4, designation, true);
+        view.setUint8(place + 6, isDaylight);
+    },
+};

@@ -4,13 +4,10 @@ import { readFileSync } from "node:fs";
 import { join } from "node:path";
 
 import { Zone as ZoneOfBytes } from "./index.js";
-import { textual } from "./library.js";
 import { refuse } from "./refused.js";
+import { zones } from "./zone_calls.js";
 
 export * from "./index.js";
-
-/** The names of zones: parts between slashes, none of which begins with a dot. */
-const NAMES = /^[\w+-][\w.+-]*(?:\/[\w+-][\w.+-]*)*$/;
 
 /** The errors of a name for which there is no file. */
 const NO_FILE = ["ENOENT", "ENOTDIR", "EISDIR", "ENAMETOOLONG"];
@@ -27,7 +24,7 @@ function bytesOfZone(name) {
 /** A time zone, which also has the file of its name. */
 export class Zone extends ZoneOfBytes {
     static open(name) {
-        if (!NAMES.test(textual(name))) refuse("ZONE_NAME");
+        if (!zones.isName(name)) refuse("ZONE_NAME");
         return new this(bytesOfZone(name), undefined, name);
     }
 }

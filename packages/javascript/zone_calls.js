@@ -54,6 +54,8 @@ function transitionBy(call, rules, at) {
 
 /** The calls of zones, by their bytes. */
 export const zones = lasting({
+    /** Whether a text can be the name of a zone. */
+    isName: (text) => calls.muxandu_zone_name_check(...putText(text)) === 0,
     /** The zone of the bytes of a file. */
     read(file) {
         if (file.length > MOST_OF_FILE) refuse("LENGTH");

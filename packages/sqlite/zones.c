@@ -20,24 +20,6 @@ typedef struct Zone {
     MuxanduTransition transitions[MUXANDU_ZONE_ROOM];
 } Zone;
 
-/* Whether a byte may follow the one before it in a name. */
-static int may_follow(char before, char byte) {
-    if (byte == '/' || byte == '.') return before != '/';
-    return (byte >= 'a' && byte <= 'z') || (byte >= 'A' && byte <= 'Z') || (byte >= '0' && byte <= '9') ||
-           byte == '+' || byte == '-' || byte == '_';
-}
-
-/* Whether a text can be the name of a zone, by the rule that `stamps` has: parts between slashes,
- * of which none begins with a full stop. So no name leads out of the folder. */
-static int is_zone_name(const char *name, size_t size) {
-    char before = '/';
-    for (size_t at = 0; at < size; at++) {
-        if (!may_follow(before, name[at])) return 0;
-        before = name[at];
-    }
-    return before != '/';
-}
-
 /* The bytes of the file of a zone. */
 static uint32_t read_file(const char *name, char *bytes, size_t *size) {
     const char *folder = getenv("TZDIR");
@@ -76,7 +58,7 @@ static uint32_t zone_named(sqlite3_context *context, sqlite3_value *value, const
     uint32_t status = read_text(value, &name, &size);
     *out = zone;
     if (status != MUXANDU_OK || zone != NULL) return status;
-    if (!is_zone_name(name, size)) return REFUSED_ZONE_NAME;
+    if (muxandu_zone_name_check(name, size) != MUXANDU_OK) return REFUSED_ZONE_NAME;
     zone = sqlite3_malloc(sizeof *zone);
     status = zone == NULL ? OUT_OF_MEMORY : read_zone(name, zone);
     if (status != MUXANDU_OK) {

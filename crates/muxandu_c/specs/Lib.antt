@@ -53,7 +53,9 @@ pub mod ZoneBatches
 pub mod ZoneChoices
 pub mod ZoneInstants
 pub mod ZoneLaws
+pub mod ZoneNames
 pub mod ZoneNumbers
 pub mod ZoneOffsets
 pub mod ZoneReads
 pub mod ZoneTimes
+pub mod ZoneTypes

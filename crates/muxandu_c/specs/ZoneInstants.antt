@@ -50,6 +50,10 @@ choice_parts (Err refusal) = Err (error_of refusal)
 abbrev pub IsChosen : ZoneParts → ℤ → Choice → Result MuxanduDateTime Refused → Type 0
 IsChosen z wall choice result = (times : LocalTimes) × AreTimesOf z wall times × (result ≡ choice_parts (chosen_of choice times))
 
+-- the same of the number of a choice
+abbrev pub IsChosenThen : ZoneParts → ℤ → ℕ → Result MuxanduDateTime Refused → Type 0
+IsChosenThen z wall number = After (choice_numbered number) (λ choice. IsChosen z wall choice)
+
 -- the same of the zone for which numbers stand, of the number of a choice, and of the wall clock of a date-time
 abbrev pub AreInstantsIn : MuxanduZone → List MuxanduTransition → ℤ → Result MuxanduZoneInstants Refused → Type 0
 AreInstantsIn zone table wall = InZone zone table (λ z found. AreInstants z wall found)

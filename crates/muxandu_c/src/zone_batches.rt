@@ -1,17 +1,23 @@
-//! Columns of instants on the clocks of time zones.
-ghost use Rattle.std.specs.Prelude.{◌≡◌, ◌≤◌, IfErr, IfOk, Ok, Err, length, take, drop};
+//! Columns of instants and of wall clocks in time zones.
+ghost use Rattle.std.specs.Prelude.{◌≡◌, ◌≤◌, IfErr, IfOk, Ok, Err, Result, length, take, drop};
 ghost use Rattle.zones.specs.Intervals.{Holds, IsWithin};
 ghost use Rattle.zones.specs.Seconds.{IsSecond};
 ghost use Rattle.muxandu_c.specs.Batches.{AreValuesOf};
-ghost use Rattle.muxandu_c.specs.ZoneBatches.{AreOffsetsOf, IsOffsetIn, second_value};
+ghost use Rattle.muxandu_c.specs.ZoneBatches.{AreAllIn, AreChosenOf, AreOffsetsOf, AreShownOf};
+ghost use Rattle.muxandu_c.specs.ZoneBatches.{IsChosenIn, IsOffsetIn, IsShownIn, second_value};
+ghost use Rattle.muxandu_c.specs.declared.refused.Refused.{Refused};
+ghost use Rattle.zones.specs.Zones.{ZoneParts};
 
 use crate::batches::stop_at;
-use crate::parts::read_timestamp;
+use crate::parts::{read_date_time, read_timestamp};
 use crate::refused::Refused;
-use crate::values::{MuxanduBatch, MuxanduTimestamp};
+use crate::values::{MuxanduBatch, MuxanduDateTime, MuxanduTimestamp};
+use crate::zone_choices::MuxanduChoice;
+use crate::zone_instants::choose_by;
 use crate::zone_numbers::{
     MUXANDU_ZONE_ROOM, MuxanduTransition, MuxanduZone, no_transition, read_table, zone_of,
 };
+use crate::zone_times::show_instant;
 use zones::laws::intervals_hold;
 use zones::{Interval, Zone};
 
@@ -115,4 +121,128 @@ pub extern "C" fn muxandu_zone_offsets_at(
         Ok(zone) => fill_offsets(&zone, seconds, out),
         Err(refused) => stop_at(0, refused),
     }
+}
+
+// What a zone makes of each item of a batch, or an error.
+trait InZone<A, B>: Copy {
+    /// The results that an item may have.
+    ghost makes: { Self → ZoneParts → A → Result B Refused → Type 0 };
+
+    fn make(self, zone: &Zone, item: A) -> Result<B, Refused>
+        ensures { makes self zone.now item result };
+}
+
+// What a zone makes of each item, up to the first that is refused.
+#[inline(always)]
+fn fill_in_zone<A: Copy, B: Copy, C: InZone<A, B>>(
+    maker: C,
+    zone: &Zone,
+    items: &[A],
+    out: &mut [B],
+) -> MuxanduBatch
+    requires room { length items.now ≤ length out.old }
+    ensures values { AreValuesOf (C.makes maker zone.now) items.now
+        (take result.count out.new) result.status }
+    ensures count { result.count ≤ length items.now }
+    ensures behind { drop result.count out.new ≡ drop result.count out.old }
+{
+    for (k, item) in items.iter().enumerate() {
+        match maker.make(zone, *item) {
+            Ok(value) => out[k] = value,
+            Err(refused) => return stop_at(k, refused),
+        }
+    }
+    MuxanduBatch {
+        count: items.len(),
+        status: 0,
+    }
+}
+
+// The same of a zone of these numbers, if there is room.
+fn convert_in_zone<A: Copy, B: Copy, C: InZone<A, B>>(
+    maker: C,
+    zone: MuxanduZone,
+    table: &[MuxanduTransition],
+    items: &[A],
+    out: &mut [B],
+) -> MuxanduBatch
+    ensures { AreAllIn (C.makes maker) zone table.now items.now result out.old out.new }
+{
+    if out.len() < items.len() {
+        return stop_at(0, Refused::Buffer);
+    }
+    let mut room = [no_transition(); MUXANDU_ZONE_ROOM];
+    let count = match read_table(table, &mut room) {
+        Ok(count) => count,
+        Err(refused) => return stop_at(0, refused),
+    };
+    match zone_of(zone, table, &room[..count]) {
+        Ok(zone) => fill_in_zone(maker, &zone, items, out),
+        Err(refused) => stop_at(0, refused),
+    }
+}
+
+// The date-time that the clocks of a zone show at a timestamp.
+#[derive(Clone, Copy)]
+struct Show;
+
+impl InZone<MuxanduTimestamp, MuxanduDateTime> for Show {
+    ghost makes = { λ maker z item result. IsShownIn z item result };
+
+    fn make(self, zone: &Zone, item: MuxanduTimestamp) -> Result<MuxanduDateTime, Refused> {
+        match read_timestamp(item) {
+            Ok(at) => show_instant(zone, at),
+            Err(refused) => Err(refused),
+        }
+    }
+}
+
+// The date-time of a zone with the wall clock of a date-time, by the number of a choice.
+#[derive(Clone, Copy)]
+struct Choose {
+    choice: u32,
+}
+
+impl InZone<MuxanduDateTime, MuxanduDateTime> for Choose {
+    ghost makes = { λ maker z item result. IsChosenIn maker.choice z item result };
+
+    fn make(self, zone: &Zone, item: MuxanduDateTime) -> Result<MuxanduDateTime, Refused> {
+        match read_date_time(item) {
+            Ok(at) => choose_by(zone, at.date_time(), self.choice),
+            Err(refused) => Err(refused),
+        }
+    }
+}
+
+/// The date-time that the clocks of a time zone show at each timestamp, up to the first that
+/// muxandu_timestamp_to_zone rejects. Errors: BUFFER if `out` has fewer items than `timestamps`,
+/// ZONE if the numbers are no zone. After these two nothing is written. Else the error is that of
+/// the first rejected item.
+#[unsafe(no_mangle)]
+pub extern "C" fn muxandu_timestamps_to_zone(
+    timestamps: &[MuxanduTimestamp],
+    zone: MuxanduZone,
+    transitions: &[MuxanduTransition],
+    out: &mut [MuxanduDateTime],
+) -> MuxanduBatch
+    ensures { AreShownOf zone transitions.now timestamps.now result out.old out.new }
+{
+    convert_in_zone(Show, zone, transitions, timestamps, out)
+}
+
+/// The date-time of a time zone with the wall clock of each date-time, by a choice where there are
+/// two or none, up to the first that muxandu_date_time_at_zone rejects. Errors: BUFFER if `out` has
+/// fewer items than `locals`, ZONE if the numbers are no zone. After these two nothing is written.
+/// Else the error is that of the first rejected item.
+#[unsafe(no_mangle)]
+pub extern "C" fn muxandu_date_times_at_zone(
+    locals: &[MuxanduDateTime],
+    zone: MuxanduZone,
+    transitions: &[MuxanduTransition],
+    choice: MuxanduChoice,
+    out: &mut [MuxanduDateTime],
+) -> MuxanduBatch
+    ensures { AreChosenOf choice zone transitions.now locals.now result out.old out.new }
+{
+    convert_in_zone(Choose { choice }, zone, transitions, locals, out)
 }

@@ -1,6 +1,7 @@
 //! Wall clocks of time zones, and the instants that have them.
 ghost use Rattle.std.specs.Prelude.{◌≡◌};
-ghost use Rattle.muxandu_c.specs.ZoneInstants.{AreInstants, AreInstantsIn, AreInstantsOf, IsChosen, IsChosenBy, IsChosenIn, IsChosenOf};
+ghost use Rattle.muxandu_c.specs.ZoneInstants.{AreInstants, AreInstantsIn, AreInstantsOf};
+ghost use Rattle.muxandu_c.specs.ZoneInstants.{IsChosen, IsChosenBy, IsChosenIn, IsChosenOf, IsChosenThen};
 ghost use Rattle.muxandu_c.specs.ZoneInstants.{instants_as, instants_of_times};
 ghost use Rattle.muxandu_c.specs.ZoneOffsets.{AnswersBy};
 
@@ -90,6 +91,20 @@ fn choose_at(zone: &Zone, wall: PlainDateTime, choice: Choice) -> Result<Muxandu
     match choose(wall.at_zone(zone), choice) {
         Ok(at) => Ok(date_time_of(at)),
         Err(refusal) => Err(refused_as(refusal)),
+    }
+}
+
+// The date-time of a wall clock by the number of a choice.
+pub(crate) fn choose_by(
+    zone: &Zone,
+    wall: PlainDateTime,
+    choice: u32,
+) -> Result<MuxanduDateTime, Refused>
+    ensures { IsChosenThen zone.now wall choice result }
+{
+    match read_choice(choice) {
+        Ok(choice) => choose_at(zone, wall, choice),
+        Err(refused) => Err(refused),
     }
 }
 

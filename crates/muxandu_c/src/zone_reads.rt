@@ -56,14 +56,14 @@ fn fault_at(place: usize, reason: u32) -> Fault
 }
 
 // The error of a text that is no rule.
-fn fault_of_rule(refusal: RuleRefusal) -> Fault
+pub(crate) fn fault_of_rule(refusal: RuleRefusal) -> Fault
     ensures { result ≡ rule_fault refusal }
 {
     fault_at(refusal.place, reason_of_rule(refusal.fault))
 }
 
 // The error of bytes that are no file of a time zone.
-fn fault_of_file(refusal: FileRefusal) -> Fault
+pub(crate) fn fault_of_file(refusal: FileRefusal) -> Fault
     ensures { result ≡ file_fault refusal }
 {
     fault_at(refusal.place, reason_of_part(refusal.part))

@@ -15,7 +15,7 @@ use zoned_times::ToZone;
 use zones::Zone;
 
 // The date-time that the clocks of a zone show at an instant.
-fn show_instant(zone: &Zone, at: Timestamp) -> Result<MuxanduDateTime, Refused>
+pub(crate) fn show_instant(zone: &Zone, at: Timestamp) -> Result<MuxanduDateTime, Refused>
     ensures { IsShown zone.now at result }
 {
     match at.to_zone(zone) {

@@ -16,7 +16,7 @@ struct DayNumbers {
 }
 
 // The number of the mark of daylight saving time.
-fn mark(is_daylight: bool) -> u8
+pub(crate) fn mark(is_daylight: bool) -> u8
     ensures { result ≡ mark_of is_daylight }
 {
     if is_daylight { 1 } else { 0 }

@@ -62,4 +62,5 @@ mod parts;
 mod storage;
 mod texts;
 mod timestamps;
+mod zone_types;
 mod zones;

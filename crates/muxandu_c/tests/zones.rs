@@ -15,7 +15,7 @@ use crate::zone_times::{
 use std::process::Abort;
 
 // Standard time up to the spring of 2024, and `CET-1CEST,M3.5.0,M10.5.0/3` from then on.
-const BERLIN: &[u8] =
+pub(super) const BERLIN: &[u8] =
     b"TZif2\x00\x00\x00\x00\x00\x00\x00\x00\x00\x00\x00\x00\x00\x00\x00\x00\x00\x00\x00\x00\
     \x00\x00\x00\x00\x00\x00\x00\x00\x00\x00\x00\x00\x00\x00\x00\x00\x00\x00\x00TZif2\x00\
     \x00\x00\x00\x00\x00\x00\x00\x00\x00\x00\x00\x00\x00\x00\x00\x00\x00\x00\x00\x00\x00\x00\
@@ -138,7 +138,7 @@ fn date_times_and_transitions(rt: HostRuntime) {
 }
 
 // The zone of `CET-1CEST,M3.5.0,M10.5.0/3`.
-fn berlin(rt: &impl Abort) -> MuxanduZone {
+pub(super) fn berlin(rt: &impl Abort) -> MuxanduZone {
     let mut zone = NO_ZONE;
     let found = muxandu_zone_from_text(b"CET-1CEST,M3.5.0,M10.5.0/3", &mut zone);
     is(rt, (found.size, found.status, found.reason), (0, 0, 0));

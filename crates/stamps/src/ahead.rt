@@ -3,6 +3,8 @@ ghost use Rattle.std.specs.Prelude.{◌≡◌, ◌<◌, ◌≤◌, ◌++◌, fal
 ghost use Rattle.std.specs.Io.KnownBytes.{IsAtEnd, Keeps};
 ghost use Rattle.stamps.specs.Ahead.{LongerBy, has_fault, head_of, inner_of, left_of};
 
+use crate::sources::Input;
+use crate::watches::Watch;
 use std::alloc::{AllocError, Global};
 use std::io;
 use std::io::Read;
@@ -41,11 +43,6 @@ impl<R: Read> Ahead<R> {
         ensures { result.now ≡ inner_of self.now }
     {
         &self.inner
-    }
-
-    /// The reader, which may change.
-    pub fn inner_mut(&mut self) -> &mut R {
-        &mut self.inner
     }
 
     /// The bytes that were read ahead.
@@ -134,6 +131,16 @@ impl<R: Read> Ahead<R> {
                 Ok(0)
             }
         }
+    }
+}
+
+impl Ahead<Input<'_>> {
+    /// Lets a watch read what is read of the input from now on. What was read ahead stays.
+    pub fn set_watch(&mut self, watch: Option<Watch>)
+        ensures head { head_of self.new ≡ head_of self.old }
+        ensures fault { has_fault self.new ≡ has_fault self.old }
+    {
+        self.inner.set_watch(watch);
     }
 }
 

@@ -187,7 +187,7 @@ pub fn watch_input(
         return Ok(());
     };
     watch.take(input.head())?;
-    input.inner_mut().set_watch(Some(watch));
+    input.set_watch(Some(watch));
     Ok(())
 }
 

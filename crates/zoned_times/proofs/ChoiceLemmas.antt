@@ -1,9 +1,8 @@
 -- The choices of a wall clock.
-use Rattle.std.proofs.Common.{◌≡◌, ◌⊎◌, inl, inr, ℤ, ◌+ℤ◌, ◌-ℤ◌, ◌≤ℤ◌, ◌<ℤ◌, Option, Some, None, Result, Ok, Err, arith, refl, sym, ap, subst}
+use Rattle.std.proofs.Common.{◌≡◌, inl, inr, ℤ, ◌-ℤ◌, ◌≤ℤ◌, ◌<ℤ◌, Option, Some, None, Result, Ok, arith, sym, ap, subst}
 use Rattle.std.proofs.lemmas.Int.{ints}
 use Rattle.offset_times.specs.Local.{Local, instant_of, offset_nanos}
-use Rattle.offset_times.specs.InstantLemmas.{instant_of-local_at, shown_at-instant_of}
-use Rattle.utc_times.specs.UnixTime.{instant_of_second}
+use Rattle.offset_times.specs.InstantLemmas.{shown_at-instant_of}
 use Rattle.zones.specs.Zones.{ZoneParts}
 use Rattle.zoned_times.specs.declared.gap.Gap.{Gap}
 use Rattle.zoned_times.specs.declared.local_refusal.LocalRefusal.{LocalRefusal}

@@ -1,13 +1,12 @@
 -- Laws of date-times in zones.
-use Rattle.std.proofs.Common.{◌≡◌, ◌∙◌, ℕ, zero, suc, ◌+◌, ◌<◌, ℤ, pos, negsuc, ◌+ℤ◌}
+use Rattle.std.proofs.Common.{◌≡◌, ◌∙◌, zero, suc, ◌<◌, ℤ, pos, negsuc, ◌+ℤ◌}
 use Rattle.std.proofs.Common.{◌-ℤ◌, ◌≤ℤ◌, ◌<ℤ◌, Option, Some, None, SomeIff, arith, refl, sym, ap, subst}
 use Rattle.std.proofs.lemmas.Int.{ints}
 use Rattle.calendar_values.specs.WallClock.{unix_seconds_of, IsWallClock}
 use Rattle.offset_times.specs.Local.{Local, instant_of, wall_at, local_at, shown_at, ShownAt}
 use Rattle.offset_times.specs.InstantLemmas.{instant_of-local_at, shown_at-instant_of}
-use Rattle.utc_times.specs.UnixTime.{instant_of_second}
 use Rattle.zones.specs.Laws as zone_laws
-use Rattle.zones.specs.Zones.{ZoneParts, IsZone, HasTransition, zone_second, zone_type, zone_offset, fixed_zone, IsZoneOffset, IsZoneType}
+use Rattle.zones.specs.Zones.{ZoneParts, IsZone, HasTransition, zone_second, zone_type, fixed_zone, IsZoneOffset, IsZoneType}
 use Rattle.zones.specs.declared.time_type.TimeType.{TimeType}
 use Rattle.zoned_times.specs.declared.local_times.LocalTimes.{LocalTimes}
 use Rattle.zoned_times.specs.declared.local_times.LocalTimes.TheVariants as local_times

@@ -1,7 +1,7 @@
 -- Wall clocks a number of days or months later.
-use Rattle.std.proofs.Common.{◌≡◌, ◌∙◌, ℕ, ℤ, pos, ◌+ℤ◌, ◌*ℤ◌, Option, Some, None, arith, sym, ap, subst}
+use Rattle.std.proofs.Common.{◌≡◌, ◌∙◌, ℤ, pos, ◌+ℤ◌, ◌*ℤ◌, Option, Some, None, arith, ap, subst}
 use Rattle.std.proofs.lemmas.Int.{ints}
-use Rattle.calendar_values.specs.Clock.{nanos_per_day, IsClock}
+use Rattle.calendar_values.specs.Clock.{nanos_per_day}
 use Rattle.calendar_values.specs.Range.{IsDay}
 use Rattle.calendar_values.specs.WallClock.{wall_clock, wall_day, wall_time, IsWallClock}
 use Rattle.calendar_values.specs.WallClockLemmas.{wall_clock-parts, wall_day-wall_clock, IsDay-wall_day, IsWallClock-wall_clock, IsClock-wall_time}

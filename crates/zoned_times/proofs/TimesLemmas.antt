@@ -1,18 +1,17 @@
 -- The date-times of a wall clock, from the seconds of its second.
-use Rattle.std.proofs.Common.{◌≡◌, ◌⊎◌, inl, inr, ℕ, ◌+◌, ℤ, pos, ◌+ℤ◌, ◌-ℤ◌, ◌≤ℤ◌, ◌<ℤ◌, arith, refl, sym, ap, subst}
+use Rattle.std.proofs.Common.{◌≡◌, inl, inr, ◌+◌, ℤ, ◌-ℤ◌, arith, refl, ap, subst}
 use Rattle.std.proofs.lemmas.Int.{ints}
 use Rattle.calendar_values.specs.Offsets.{IsOffset}
 use Rattle.calendar_values.specs.WallClock.{unix_seconds_of}
 use Rattle.offset_times.specs.Local.{Local, instant_of, offset_nanos, wall_at}
-use Rattle.utc_times.specs.UnixTime.{instant_of_second}
 use Rattle.zones.specs.Clocks.{IsPlace}
 use Rattle.zones.specs.Ranges.{IsTailSecond}
 use Rattle.zones.specs.Seconds.{IsSecond}
-use Rattle.zones.specs.Zones.{ZoneParts, HasTransition, zone_second, zone_type, zone_offset, ZoneShows, IsZoneInstants}
+use Rattle.zones.specs.Zones.{ZoneParts, HasTransition, zone_second, zone_type, ZoneShows, IsZoneInstants}
 use Rattle.zones.specs.declared.local_instants.LocalInstants.TheVariants as local_instants
 use Rattle.zoned_times.specs.declared.gap.Gap.{Gap}
 use Rattle.zoned_times.specs.declared.local_times.LocalTimes.TheVariants as local_times
-use Rattle.zoned_times.specs.Zoned.{HasOffset, Shows, IsGap, AreTimesOf}
+use Rattle.zoned_times.specs.Zoned.{Shows, IsGap, AreTimesOf}
 use Rattle.zoned_times.proofs.PlaceLemmas.{second-begun, second-not_over, second-earlier, place-of_second, place-of_instant}
 
 -- the second at which clocks show the wall clock's second makes a date-time

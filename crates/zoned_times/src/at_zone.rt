@@ -2,13 +2,14 @@
 ghost use Rattle.std.specs.Prelude.{◌≡◌, ◌-ℤ◌, ℤ};
 ghost use Rattle.calendar_values.specs.Offsets.{IsOffset};
 ghost use Rattle.calendar_values.specs.WallClock.{unix_seconds_of, IsWallClock};
+ghost use Rattle.offset_times.specs.Local.{wall_at};
 ghost use Rattle.zones.specs.Seconds.{IsSecond};
 ghost use Rattle.zoned_times.specs.Zoned.{AreTimesOf};
 
 use crate::seconds::offset_of;
 use crate::{Gap, LocalTimes, ToZone};
 use calendar_values::UtcOffset;
-use offset_times::Assume;
+use offset_times::{Assume, OffsetDateTime};
 use plain_times::PlainDateTime;
 use utc_times::AsUtc;
 use zones::{LocalInstants, Zone};
@@ -28,29 +29,30 @@ impl AtZone for PlainDateTime {
 
     fn at_zone(self, zone: &Zone) -> LocalTimes {
         match zone.instants_of(second_shown(self)) {
-            LocalInstants::Single(second) => {
-                LocalTimes::Single(self.assume_offset(offset_from(second, self)))
+            LocalInstants::Single(second) => LocalTimes::Single(time_at(self, second)),
+            LocalInstants::Fold(earlier, later) => {
+                LocalTimes::Fold(time_at(self, earlier), time_at(self, later))
             }
-            LocalInstants::Fold(earlier, later) => LocalTimes::Fold(
-                self.assume_offset(offset_from(earlier, self)),
-                self.assume_offset(offset_from(later, self)),
-            ),
             LocalInstants::Gap(earlier, later, second) => {
-                let after = offset_from(earlier, self);
-                let before = offset_from(later, self);
+                let after = time_at(self, earlier);
+                let before = time_at(self, later);
                 let gap = Gap {
                     second,
-                    before,
-                    after,
+                    before: before.offset(),
+                    after: after.offset(),
                 };
-                LocalTimes::Gap(
-                    gap,
-                    self.assume_offset(after).to_zone(zone),
-                    self.assume_offset(before).to_zone(zone),
-                )
+                LocalTimes::Gap(gap, after.to_zone(zone), before.to_zone(zone))
             }
         }
     }
+}
+
+// The date-time of the wall clock at a Unix second at which clocks may show it.
+fn time_at(wall: PlainDateTime, second: i64) -> OffsetDateTime
+    requires { IsOffset (unix_seconds_of wall -ℤ second) }
+    ensures { result ≡ wall_at wall (unix_seconds_of wall -ℤ second) }
+{
+    wall.assume_offset(offset_from(second, wall))
 }
 
 // The Unix second at which clocks in UTC show the second of the wall clock.

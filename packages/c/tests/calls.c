@@ -377,6 +377,30 @@ static void failed_items_keep_their_bytes(void) {
 #undef KEEPS
 }
 
+/* The abbreviations of a file, and columns of date-times, as Python's zoneinfo has them. */
+static void columns_of_files(MuxanduZone zone, const MuxanduTransition *rows, size_t count) {
+    static const MuxanduTimestamp instants[] = {{1711846799, 5}, {1711846800, 5}};
+    static const char *const names[] = {"CET", "CEST"};
+    MuxanduDateTime shown[2];
+    MuxanduTimeType kind;
+    MuxanduOutcome named;
+    char name[8];
+    size_t place;
+    for (place = 0; place < 2; place++) {
+        CHECK(muxandu_zone_type_at(zone, rows, count, instants[place], &kind) == MUXANDU_OK);
+        CHECK(kind.offset_seconds == (place ? 7200 : 3600) && kind.is_daylight == place);
+        named = muxandu_zone_abbreviation_from_tzif(BERLIN, sizeof BERLIN - 1, kind.designation, name, sizeof name);
+        CHECK(is_outcome(named, strlen(names[place]), MUXANDU_OK, 0));
+        CHECK(memcmp(name, names[place], named.size) == 0);
+    }
+    CHECK(muxandu_timestamps_to_zone(instants, 2, zone, rows, count, shown, 2).count == 2);
+    CHECK(is_date_time(shown[0], date_time(2024, 3, 31, 1, 59, 59, 5, 3600)));
+    CHECK(is_date_time(shown[1], date_time(2024, 3, 31, 3, 0, 0, 5, 7200)));
+    shown[0] = date_time(2024, 3, 31, 2, 30, 0, 5, 0);
+    CHECK(muxandu_date_times_at_zone(shown, 1, zone, rows, count, MUXANDU_CHOICE_EARLIER, shown + 1, 1).count == 1);
+    CHECK(is_date_time(shown[1], date_time(2024, 3, 31, 1, 30, 0, 5, 3600)));
+}
+
 /* The offsets of a file, as Python's zoneinfo has them, and its transitions. */
 static void zones_of_files(void) {
     static const int64_t seconds[] = {0, 1711846799, 1711846800, 1729990799, 1729990800};
@@ -407,6 +431,7 @@ static void zones_of_files(void) {
     CHECK(muxandu_date_time_at_zone(date_time(2024, 3, 31, 2, 30, 0, 5, 0), zone, rows, 1, MUXANDU_CHOICE_EARLIER,
                                     &shown) == MUXANDU_OK);
     CHECK(is_date_time(shown, date_time(2024, 3, 31, 1, 30, 0, 5, 3600)));
+    columns_of_files(zone, rows, 1);
     other = zone;
     other.first_week = 6;
     CHECK(muxandu_zone_offset_at(other, rows, 1, stamp(0, 0), &offset) == MUXANDU_REFUSED_ZONE);

@@ -59,7 +59,9 @@ static void zones(void) {
     MuxanduTimestamp instant = {1711846800, 0};
     MuxanduDateTime shown;
     MuxanduZoneInstants found;
+    MuxanduTimeType kind;
     int32_t offset;
+    char name[8];
     CHECK(muxandu_zone_from_tzif(BERLIN, sizeof BERLIN - 1, &zone, rows, 2).status == MUXANDU_OK);
     (void)muxandu_zone_offset_at(zone, rows, 1, instant, &offset);
     (void)muxandu_timestamp_to_zone(instant, zone, rows, 1, &shown);
@@ -68,6 +70,12 @@ static void zones(void) {
     (void)muxandu_zone_instants_of(zone, rows, 1, shown, &found);
     (void)muxandu_date_time_at_zone(shown, zone, rows, 1, MUXANDU_CHOICE_LATER, &shown);
     (void)muxandu_zone_offsets_at(zone, rows, 1, &instant.seconds, 1, &offset, 1);
+    (void)muxandu_timestamps_to_zone(&instant, 1, zone, rows, 1, &shown, 1);
+    (void)muxandu_date_times_at_zone(&shown, 1, zone, rows, 1, MUXANDU_CHOICE_LATER, &shown, 1);
+    (void)muxandu_zone_type_at(zone, rows, 1, instant, &kind);
+    (void)muxandu_zone_abbreviation_from_tzif(BERLIN, sizeof BERLIN - 1, 4, name, sizeof name);
+    (void)muxandu_zone_name_check("Europe/Berlin", 13);
+    (void)muxandu_zone_abbreviation_from_text("CET-1CEST,M3.5.0,M10.5.0/3", 26, 257, name, sizeof name);
     (void)muxandu_zone_from_text("CET-1CEST,M3.5.0,M10.5.0/3", 26, &zone);
 }
 

@@ -274,6 +274,7 @@ static PyMethodDef functions[] = {CALLS_OF_FUNCTIONS{"pack_texts", pack_texts, M
                                   {"bind", FUNCTION(bind), METH_FASTCALL, NULL},
                                   {"bind_zones", bind_zones, METH_O, NULL},
                                   {"moments_to_zone", FUNCTION(moments_to_zone), METH_FASTCALL, NULL},
+                                  {"is_zone_name", is_zone_name, METH_O, NULL},
                                   {0}};
 
 /* Types. */
@@ -386,6 +387,10 @@ static PyMethodDef Zone_methods[] = {
            "The date-times with a wall clock, and the second and the ends of a gap."),
     METHOD("offset_at", zone_offset_at, METH_O, "$self, at, /",
            "The offset of the zone at an instant: that after the last transition at or before it."),
+    METHOD("abbreviation_at", zone_abbreviation_at, METH_O, "$self, at, /",
+           "The abbreviation that the zone has at an instant, such as CEST."),
+    METHOD("_type_at", zone_type_at, METH_O, "$self, at, /",
+           "The offset at an instant, and whether it is daylight saving time."),
     METHOD("_next", zone_next, METH_O, "$self, at, /", "The numbers of the first transition after an instant."),
     METHOD("_previous", zone_previous, METH_O, "$self, at, /", "The numbers of the last transition before one."),
     {0}};

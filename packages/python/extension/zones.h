@@ -67,6 +67,16 @@ static PyObject *zone_of_rule(PyObject *class, PyObject *word) {
     return make_Zone((PyTypeObject *)class, &value, NULL, 0, said);
 }
 
+/* Whether a text can be the name of a zone. */
+static PyObject *is_zone_name(PyObject *self, PyObject *word) {
+    uint32_t status;
+    Text text;
+    if (!take_text(OWNER_OF_FUNCTION(self), word, &text)) return NULL;
+    status = muxandu_zone_name_check(text.bytes, (size_t)text.size);
+    drop_text(&text);
+    return PyBool_FromLong(status == MUXANDU_OK);
+}
+
 /* The zone of a word, which is one or the name of one. */
 static PyObject *take_zone(Module *module, PyObject *word) {
     if (IS_A(module, Zone, word)) return Py_NewRef(word);
@@ -201,6 +211,55 @@ static PyObject *zone_offset_at(PyObject *self, PyObject *word) {
     if (!take_instant(module, word, &at)) return NULL;
     status = offset_in(self, at, &offset);
     return status ? refuse(module, status) : make_UtcOffset(module, module->types[kind_UtcOffset], offset);
+}
+
+static int take_type(PyObject *self, PyObject *word, MuxanduTimeType *out) {
+    Module *module = ZONE_OWNER(self);
+    MuxanduTimestamp at;
+    uint32_t status;
+    if (!take_instant(module, word, &at)) return 0;
+    status = muxandu_zone_type_at(OF_ZONE(self), at, out);
+    return !status || (refuse(module, status), 0);
+}
+
+/* The offset of a zone at an instant, and whether it is daylight saving time. */
+static PyObject *zone_type_at(PyObject *self, PyObject *word) {
+    MuxanduTimeType found;
+    if (!take_type(self, word, &found)) return NULL;
+    return Py_BuildValue("(iN)", (int)found.offset_seconds, PyBool_FromLong(found.is_daylight));
+}
+
+/* Writes the abbreviation with a number, from the bytes or from the rule that a zone is made of. */
+static int write_abbreviation(PyObject *made_of, uint16_t number, char *out, size_t room, MuxanduOutcome *outcome) {
+    Py_ssize_t size;
+    char *bytes;
+    const char *text;
+    if (PyBytes_Check(made_of)) {
+        if (PyBytes_AsStringAndSize(made_of, &bytes, &size) < 0) return 0;
+        *outcome = muxandu_zone_abbreviation_from_tzif(bytes, (size_t)size, number, out, room);
+        return 1;
+    }
+    text = PyUnicode_AsUTF8AndSize(made_of, &size);
+    if (text) *outcome = muxandu_zone_abbreviation_from_text(text, (size_t)size, number, out, room);
+    return text != NULL;
+}
+
+/* The abbreviation of a zone at an instant. */
+static PyObject *zone_abbreviation_at(PyObject *self, PyObject *word) {
+    PyObject *made_of = ((ZoneObject *)self)->made_of, *text;
+    char buffer[64], *longer = NULL;
+    MuxanduTimeType found;
+    MuxanduOutcome outcome;
+    if (!take_type(self, word, &found)) return NULL;
+    if (!write_abbreviation(made_of, found.designation, buffer, sizeof buffer, &outcome)) return NULL;
+    if (outcome.status == MUXANDU_REFUSED_BUFFER) {
+        longer = PyMem_Malloc(outcome.size);
+        if (!longer) return PyErr_NoMemory();
+        (void)write_abbreviation(made_of, found.designation, longer, outcome.size, &outcome);
+    }
+    text = PyUnicode_DecodeUTF8(longer ? longer : buffer, (Py_ssize_t)outcome.size, "replace");
+    PyMem_Free(longer);
+    return text;
 }
 
 /* The numbers of the transition of a zone that is next to an instant, or None where there is

@@ -368,3 +368,19 @@ class MuxanduZone(ctypes.Structure):
 
 
 laid_out(MuxanduZone, 44, offset_seconds=0, first_time=4, first_offset_seconds=8, second_time=12, second_offset_seconds=16, designation=20, first_day=22, first_designation=24, second_day=26, second_designation=28, is_daylight=30, has_rule=31, first_kind=32, first_month=33, first_week=34, first_weekday=35, first_is_daylight=36, second_kind=37, second_month=38, second_week=39, second_weekday=40, second_is_daylight=41)
+
+
+class MuxanduTimeType(ctypes.Structure):
+    """A kind of local time of a time zone."""
+
+    _fields_ = [
+        # The offset in seconds: -93599 to 93599.
+        ("offset_seconds", ctypes.c_int32),
+        # The number of the abbreviation.
+        ("designation", ctypes.c_uint16),
+        # 1 for daylight saving time, else 0.
+        ("is_daylight", ctypes.c_uint8),
+    ]
+
+
+laid_out(MuxanduTimeType, 8, offset_seconds=0, designation=4, is_daylight=6)

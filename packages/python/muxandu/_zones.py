@@ -4,7 +4,6 @@ from __future__ import annotations
 
 import functools
 import os
-import re
 import stat
 from typing import Any, ClassVar, NamedTuple, NoReturn, Optional, TypeVar, Union
 
@@ -12,9 +11,6 @@ from . import _extension as engine
 from ._refusals import REASONS, REFUSALS
 from ._clocks import PlainDateTime, UtcDateTime
 from ._values import OffsetDateTime, Timestamp, UtcOffset, _complete
-
-# A name has parts between slashes, which begin with no full stop. So it leads out of no folder.
-_NAME = re.compile(r"[A-Za-z0-9+_-][A-Za-z0-9+_.-]*(?:/[A-Za-z0-9+_-][A-Za-z0-9+_.-]*)*")
 
 # The file of the machine's zone, and the most bytes that are read of a file.
 _LOCAL, _MOST = "/etc/localtime", 1 << 20
@@ -158,7 +154,7 @@ def _local_link() -> tuple[Optional[str], Optional[str]]:
         return None, None
     for folder in _folders():
         name = target.removeprefix(os.path.join(folder, ""))
-        if name != target and _NAME.fullmatch(name):
+        if name != target and engine.is_zone_name(name):
             return name, _version_in(folder)
     return None, None
 
@@ -225,7 +221,7 @@ class Zone(engine.Zone):
             return cls.from_rule("UTC0")
         if text.startswith(":"):
             return cls(text[1:])
-        if not _NAME.fullmatch(text):
+        if not engine.is_zone_name(text):
             return cls.from_rule(text)
         try:
             return cls(text)
@@ -259,6 +255,11 @@ class Zone(engine.Zone):
         or none where they are put forward past it, with the ends of the gap."""
         times, gap = self._instants_of(wall)
         return LocalTimes(times, None if gap is None else Gap(Timestamp(gap[0]), *gap[1:]))
+
+    def local_type_at(self, at: _Instant) -> LocalType:
+        """The offset of the zone at an instant, and whether it is daylight saving time."""
+        offset, is_daylight = self._type_at(at)
+        return LocalType(UtcOffset(offset), is_daylight)
 
     def next_transition(self, at: _Instant) -> Optional[Transition]:
         """The first transition after an instant, or None if there is none in range."""
@@ -311,7 +312,7 @@ def _find_zone(kind: Any, name: Any) -> Any:
     if not isinstance(name, str):
         raise TypeError(f"the name of a zone must be a str, not {type(name).__name__}")
     name = str.__str__(name)
-    if not _NAME.fullmatch(name):
+    if not engine.is_zone_name(name):
         raise ZoneNameError(f"{name!r} can be no name of a zone: write one such as Europe/Berlin", name)
     return _named(kind, name, _folders())
 

@@ -4,6 +4,7 @@ import contextlib
 import copy
 import datetime
 import io
+import itertools
 import os
 import pickle
 import runpy
@@ -344,6 +345,19 @@ class Instants(unittest.TestCase):
         for second in (-(10**12), -1):
             self.assertEqual(zone.offset_at(Timestamp(second)), UtcOffset(0))
 
+    def test_abbreviations(self):
+        for at, name, is_daylight in (
+            (SPRING, "CEST", True),
+            (SPRING - Duration(0, 1), "CET", False),
+            (AUTUMN.to_utc(), "CET", False),
+        ):
+            self.assertEqual((self.berlin.abbreviation_at(at), self.berlin.local_type_at(at).is_daylight), (name, is_daylight))
+            self.assertEqual(self.berlin.local_type_at(at).offset, self.berlin.offset_at(at))
+        self.assertEqual(Zone.from_rule("<+1030>-10:30").abbreviation_at(SPRING), "+1030")
+        self.assertEqual(Zone.from_rule("A" * 70 + "1").abbreviation_at(SPRING), "A" * 70)
+        for call in (self.berlin.abbreviation_at, self.berlin.local_type_at):
+            self.assertRaises(TypeError, call, 0)
+
     def test_transitions(self):
         found = self.berlin.next_transition(SPRING)
         self.assertEqual((found.at, found.before.offset, found.after.offset), (AUTUMN, UtcOffset(7_200), UtcOffset(3_600)))
@@ -470,6 +484,13 @@ HAS_ZONES = any(os.path.exists(os.path.join(folder, "Europe/Berlin")) for folder
 
 @unittest.skipUnless(HAS_ZONES, "no zones are here")
 class BesideZoneinfo(unittest.TestCase):
+    def test_abbreviations(self):
+        for name in ("Europe/Berlin", "America/New_York", "Asia/Kathmandu", "Africa/Casablanca", "America/Nuuk"):
+            zone, peer = Zone(name), zoneinfo.ZoneInfo(name)
+            for year, month in itertools.product(range(1900, 2100, 7), (1, 7)):
+                at = datetime.datetime(year, month, 5, tzinfo=datetime.timezone.utc)
+                self.assertEqual(zone.abbreviation_at(Timestamp(int(at.timestamp()))), at.astimezone(peer).tzname(), (name, at))
+
     def test_the_zones_of_the_machine(self):
         for name in ("Europe/Berlin", "America/New_York", "Asia/Kathmandu", "Australia/Lord_Howe", "Africa/Casablanca", "UTC"):
             zone, peer = Zone(name), zoneinfo.ZoneInfo(name)

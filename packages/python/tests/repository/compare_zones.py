@@ -17,7 +17,7 @@ import zoneinfo
 from datetime import datetime, timedelta, timezone
 
 import muxandu_sys
-from muxandu_sys import MuxanduDateTime, MuxanduTimestamp, MuxanduTransition, MuxanduZone, MuxanduZoneInstants
+from muxandu_sys import MuxanduDateTime, MuxanduTimestamp, MuxanduTimeType, MuxanduTransition, MuxanduZone, MuxanduZoneInstants
 
 library = muxandu_sys.declare(ctypes.CDLL(os.environ["MUXANDU_LIBRARY"]))
 
@@ -58,6 +58,7 @@ class Zone:
 
     def __init__(self, name, data, rule=None):
         self.name, self.zone, self.rows = name, MuxanduZone(), (MuxanduTransition * 512)()
+        self.data, self.rule = data, rule
         if rule is None:
             made = library.muxandu_zone_from_tzif(data, len(data), ctypes.byref(self.zone), self.rows, 512)
         else:
@@ -73,6 +74,19 @@ class Zone:
         """The wall clock at a second, and the offset."""
         at = (EPOCH + timedelta(seconds=second)).replace(tzinfo=timezone.utc).astimezone(self.python)
         return at.replace(tzinfo=None, fold=0), at.utcoffset() // timedelta(seconds=1)
+
+    def abbreviation(self, number):
+        """The abbreviation with a number, by the library."""
+        room = ctypes.create_string_buffer(64)
+        if self.rule is None:
+            made = library.muxandu_zone_abbreviation_from_tzif(self.data, len(self.data), number, room, len(room))
+        else:
+            made = library.muxandu_zone_abbreviation_from_text(self.rule, len(self.rule), number, room, len(room))
+        return None if made.status else room.raw[: made.size].decode()
+
+    def abbreviation_at(self, second):
+        """The abbreviation at a second, by `zoneinfo`."""
+        return (EPOCH + timedelta(seconds=second)).replace(tzinfo=timezone.utc).astimezone(self.python).tzname()
 
     def instants(self, wall):
         """The seconds of a wall clock by both offsets that `zoneinfo` has for it, and those at which the zone shows it."""
@@ -100,9 +114,15 @@ def ask_instant(zone, second, nanosecond):
     found, shown, at = ctypes.c_int32(), MuxanduDateTime(), MuxanduTimestamp(second, nanosecond)
     status = library.muxandu_zone_offset_at(zone.zone, zone.rows, zone.size, at, ctypes.byref(found))
     count((status, found.value) == (0, offset), f"{zone.name} at {second}: {status} {found.value}, not {offset}")
+    kind, name = MuxanduTimeType(), zone.abbreviation_at(second)
+    status = library.muxandu_zone_type_at(zone.zone, zone.rows, zone.size, at, ctypes.byref(kind))
+    told = status, kind.offset_seconds, zone.abbreviation(kind.designation)
+    count(told == (0, offset, name), f"{zone.name} at {second}: {told}, not {name} at {offset}")
     status = library.muxandu_timestamp_to_zone(at, zone.zone, zone.rows, zone.size, ctypes.byref(shown))
     wanted = parts(date_time(wall, nanosecond, offset))
     count((status, parts(shown)) == (0, wanted), f"{zone.name} at {second}: {status} {parts(shown)}, not {wanted}")
+    batch = library.muxandu_timestamps_to_zone(ctypes.byref(at), 1, zone.zone, zone.rows, zone.size, ctypes.byref(shown), 1)
+    count((*parts(batch), parts(shown)) == (1, 0, wanted), f"{zone.name} at {second} in a column: {parts(shown)}")
 
 
 def ask_wall(zone, wall, nanosecond):
@@ -128,6 +148,10 @@ def ask_choice(zone, local, choice, second, nanosecond, status):
     wanted = parts(date_time(wall, nanosecond, offset)) if status == 0 else parts(MuxanduDateTime())
     holds = (told, parts(answer)) == (status, wanted)
     count(holds, f"{zone.name} of {parts(local)} by {choice}: {told} {parts(answer)}, not {status} {wanted}")
+    items = ctypes.byref(local), 1, zone.zone, zone.rows, zone.size, choice, ctypes.byref(answer), 1
+    batch = library.muxandu_date_times_at_zone(*items)
+    holds = (*parts(batch), parts(answer)) == (not status, status, wanted)
+    count(holds, f"{zone.name} of {parts(local)} by {choice} in a column: {parts(batch)} {parts(answer)}")
 
 
 def ask(rng, zone, number):

@@ -6,5 +6,5 @@ returns-in-Ok-zone_of c =
     let filled = c.fill_offsets.ensures in
     inr (
       search rules,
-      inl (c.in-Ok-zone_of.zone, c.in-Ok-zone_of.ensures, record { values = filled.values; count = filled.count; behind = filled.behind }),
+      inl (c.in-Ok-zone_of.zone, c.in-Ok-zone_of.ensures, (filled.values, filled.count, filled.behind)),
     )

@@ -1,4 +1,4 @@
-use Rattle.std.proofs.Common.{◌≡◌, ℤ, ◌+ℤ◌, Result, Ok, Err, OkIff, FitsSigned, to_z, of_z, arith, subst}
+use Rattle.std.proofs.Common.{◌≡◌, ℤ, ◌+ℤ◌, Result, Ok, Err, OkIff, to_z, of_z, arith, subst}
 use mir.Syntax.{w32, w64}
 use Rattle.calendar_values.specs.Offsets.{IsOffset}
 use Rattle.calendar_values.specs.Refusals.{Refusal}

@@ -1,9 +1,8 @@
-use Rattle.std.proofs.Common.{◌≡◌, ◌∙◌, ℤ, pos, ◌+ℤ◌, ◌*ℤ◌, Option, Some, None, to_z, of_z, arith, ap, subst}
+use Rattle.std.proofs.Common.{◌≡◌, ◌∙◌, ℤ, ◌+ℤ◌, Option, Some, None, to_z, of_z, arith, ap, subst}
 use mir.Syntax.{w64}
-use Rattle.calendar_values.specs.Clock.{nanos_per_day}
-use Rattle.calendar_values.specs.Range.{IsDay, SomeDay}
+use Rattle.calendar_values.specs.Range.{SomeDay}
 use Rattle.calendar_values.specs.SignedArith.{signed_arith}
-use Rattle.calendar_values.specs.WallClock.{wall_clock, wall_day, wall_time}
+use Rattle.calendar_values.specs.WallClock.{wall_clock, wall_day}
 use Rattle.zoned_times.specs.Zoned.{AreIfAny}
 use Rattle.zoned_times.proofs.ShiftLemmas.{dated-some, dated-none, wall_clock-days_later}
 use Rattle.zoned_times.proofs.shifts.days_later.Goals as goal

@@ -3,7 +3,7 @@
 use crate::proved::zoned_times::seconds::offset_of;
 use crate::proved::zoned_times::{Gap, LocalTimes, ToZone};
 use crate::proved::calendar_values::UtcOffset;
-use crate::proved::offset_times::Assume;
+use crate::proved::offset_times::{Assume, OffsetDateTime};
 use crate::proved::plain_times::PlainDateTime;
 use crate::proved::utc_times::AsUtc;
 use crate::proved::zones::{LocalInstants, Zone};
@@ -41,29 +41,36 @@ impl AtZone for PlainDateTime {
     #[inline]
     fn at_zone(self, zone: &Zone) -> LocalTimes {
         match zone.instants_of(second_shown(self)) {
-            LocalInstants::Single(second) => {
-                LocalTimes::Single(self.assume_offset(offset_from(second, self)))
+            LocalInstants::Single(second) => LocalTimes::Single(time_at(self, second)),
+            LocalInstants::Fold(earlier, later) => {
+                LocalTimes::Fold(time_at(self, earlier), time_at(self, later))
             }
-            LocalInstants::Fold(earlier, later) => LocalTimes::Fold(
-                self.assume_offset(offset_from(earlier, self)),
-                self.assume_offset(offset_from(later, self)),
-            ),
             LocalInstants::Gap(earlier, later, second) => {
-                let after = offset_from(earlier, self);
-                let before = offset_from(later, self);
+                let after = time_at(self, earlier);
+                let before = time_at(self, later);
                 let gap = Gap {
                     second,
-                    before,
-                    after,
+                    before: before.offset(),
+                    after: after.offset(),
                 };
-                LocalTimes::Gap(
-                    gap,
-                    self.assume_offset(after).to_zone(zone),
-                    self.assume_offset(before).to_zone(zone),
-                )
+                LocalTimes::Gap(gap, after.to_zone(zone), before.to_zone(zone))
             }
         }
     }
+}
+
+// The date-time of the wall clock at a Unix second at which clocks may show it.
+/// # Contract
+///
+/// ```text
+/// requires { IsOffset (unix_seconds_of wall -ℤ second) }
+/// ensures { result ≡ wall_at wall (unix_seconds_of wall -ℤ second) }
+/// ```
+///
+/// [docs/proofs/STATEMENT.md](crate::proved#contracts) explains the words.
+#[inline]
+fn time_at(wall: PlainDateTime, second: i64) -> OffsetDateTime {
+    wall.assume_offset(offset_from(second, wall))
 }
 
 // The Unix second at which clocks in UTC show the second of the wall clock.

@@ -3,7 +3,7 @@ use mir.Syntax.{w64}
 use Rattle.calendar_values.specs.SignedArith.{signed_arith}
 use Rattle.calendar_values.specs.Offsets.{IsOffset}
 use Rattle.calendar_values.specs.WallClock.{unix_seconds_of, IsWallClock}
-use Rattle.offset_times.specs.Local.{Local, wall_at}
+use Rattle.offset_times.specs.Local.{Local, instant_of, offset_nanos, wall_at}
 use Rattle.zones.specs.Zones.{ZoneParts, IsZoneInstants}
 use Rattle.zones.specs.declared.local_instants.LocalInstants.{LocalInstants}
 use Rattle.zones.specs.declared.local_instants.LocalInstants.TheVariants.{Single, Gap, Fold}
@@ -30,16 +30,24 @@ same w t range offset = let near = IsTailSecond-shown (unix_seconds_of w) t (IsS
 ahead : (w t : ℤ) → IsWallClock w → IsOffset (unix_seconds_of w -ℤ t) → IsOffset (unix_seconds_of w -ℤ to_z w64 (of_z w64 t))
 ahead w t range offset = subst (λ (s : ℤ). IsOffset (unix_seconds_of w -ℤ s)) (sym (same w t range offset)) offset
 
--- the date-time of the wall clock at that offset
-at : (w t o : ℤ) (v : Local) → IsWallClock w → IsOffset (unix_seconds_of w -ℤ t) → o ≡ unix_seconds_of w -ℤ to_z w64 (of_z w64 t) → v ≡ wall_at w o
+-- the date-time of the wall clock at it
+at : (w t : ℤ) (v : Local) → IsWallClock w → IsOffset (unix_seconds_of w -ℤ t) → v ≡ wall_at w (unix_seconds_of w -ℤ to_z w64 (of_z w64 t))
     → wall_at w (unix_seconds_of w -ℤ t) ≡ v
-at w t o v range offset ahead is =
-    let e = same w t range offset in
-    let f : unix_seconds_of w -ℤ t ≡ o = omega (arith, signed_arith) in
-    ap (wall_at w) f ∙ sym is
+at w t v range offset is = sym (subst (λ (s : ℤ). v ≡ wall_at w (unix_seconds_of w -ℤ s)) (same w t range offset) is)
 
-pub offset_from-requires : goal.offset_from-requires
-offset_from-requires c =
+-- its instant, and its offset
+instant_at : (w o p : ℤ) (v : Local) → v ≡ wall_at w o → p ≡ v.offset → instant_of v ≡ w -ℤ offset_nanos p
+unfolding instant_of
+instant_at w o p v is offset =
+    subst (λ (x : Local). p ≡ x.offset → instant_of x ≡ w -ℤ offset_nanos p) (sym is) (λ e. ap (λ (q : ℤ). w -ℤ offset_nanos q) (sym e)) offset
+
+offset_at : (w t p : ℤ) (v : Local) → IsWallClock w → IsOffset (unix_seconds_of w -ℤ t) → v ≡ wall_at w (unix_seconds_of w -ℤ to_z w64 (of_z w64 t))
+    → p ≡ v.offset → p ≡ unix_seconds_of w -ℤ t
+offset_at w t p v range near is offset =
+    offset ∙ ap (λ (x : Local). x.offset) is ∙ ap (λ (s : ℤ). unix_seconds_of w -ℤ s) (same w t range near)
+
+pub time_at-requires : goal.time_at-requires
+time_at-requires c =
     let z = c.args.zone.now in
     let w = c.args.self in
     let t = c.in-Single.second in
@@ -47,8 +55,8 @@ offset_from-requires c =
     let is = found z w c.second_shown.result c.instants_of.result (Single t) range c.second_shown.ensures.value c.in-Single.is c.instants_of.ensures in
     ahead w t range (IsOffset-shown z (unix_seconds_of w) t is.0)
 
-pub offset_from-requires-in-Fold : goal.offset_from-requires-in-Fold
-offset_from-requires-in-Fold c =
+pub time_at-requires-in-Fold : goal.time_at-requires-in-Fold
+time_at-requires-in-Fold c =
     let z = c.args.zone.now in
     let w = c.args.self in
     let t = c.in-Fold.earlier in
@@ -57,8 +65,8 @@ offset_from-requires-in-Fold c =
     c.instants_of.ensures in
     ahead w t range (IsOffset-shown z (unix_seconds_of w) t is.1)
 
-pub offset_from-requires-in-Fold-2 : goal.offset_from-requires-in-Fold-2
-offset_from-requires-in-Fold-2 c =
+pub time_at-requires-in-Fold-2 : goal.time_at-requires-in-Fold-2
+time_at-requires-in-Fold-2 c =
     let z = c.args.zone.now in
     let w = c.args.self in
     let u = c.in-Fold.later in
@@ -67,8 +75,8 @@ offset_from-requires-in-Fold-2 c =
     c.instants_of.ensures in
     ahead w u range (IsOffset-shown z (unix_seconds_of w) u is.2)
 
-pub offset_from-after-requires : goal.offset_from-after-requires
-offset_from-after-requires c =
+pub time_at-after-requires : goal.time_at-after-requires
+time_at-after-requires c =
     let z = c.args.zone.now in
     let w = c.args.self in
     let t = c.in-Gap.earlier in
@@ -77,8 +85,8 @@ offset_from-after-requires c =
     c.instants_of.ensures in
     ahead w t range (IsOffset-gap z (unix_seconds_of w) t c.in-Gap.later c.in-Gap.second is).0
 
-pub offset_from-before-requires : goal.offset_from-before-requires
-offset_from-before-requires c =
+pub time_at-before-requires : goal.time_at-before-requires
+time_at-before-requires c =
     let z = c.args.zone.now in
     let w = c.args.self in
     let u = c.in-Gap.later in
@@ -105,8 +113,7 @@ returns-in-Single c =
     let t = c.in-Single.second in
     let range = c.second_shown.ensures.wall_in_range in
     let is = found z w c.second_shown.result c.instants_of.result (Single t) range c.second_shown.ensures.value c.in-Single.is c.instants_of.ensures in
-    let offset = IsOffset-shown z (unix_seconds_of w) t is.0 in
-    let one = at w t c.offset_from.result c.assume_offset.result range offset c.offset_from.ensures c.assume_offset.ensures.value in
+    let one = at w t c.time_at.result range (IsOffset-shown z (unix_seconds_of w) t is.0) c.time_at.ensures in
     subst (λ (v : Local). AreTimesOf z w (local_times.Single v)) one (times-single z w t is)
 
 pub returns-in-Fold : goal.returns-in-Fold
@@ -117,13 +124,11 @@ returns-in-Fold c =
     let u = c.in-Fold.later in
     let range = c.second_shown.ensures.wall_in_range in
     let is = found z w c.second_shown.result c.instants_of.result (Fold t u) range c.second_shown.ensures.value c.in-Fold.is c.instants_of.ensures in
-    let one = at w t c.offset_from-in-Fold.result c.assume_offset-in-Fold.result range (IsOffset-shown z (unix_seconds_of w) t is.1)
-    c.offset_from-in-Fold.ensures c.assume_offset-in-Fold.ensures.value in
-    let two = at w u c.offset_from-in-Fold-2.result c.assume_offset-in-Fold-2.result range (IsOffset-shown z (unix_seconds_of w) u is.2)
-    c.offset_from-in-Fold-2.ensures c.assume_offset-in-Fold-2.ensures.value in
-    let first : AreTimesOf z w (local_times.Fold c.assume_offset-in-Fold.result (wall_at w (unix_seconds_of w -ℤ u))) =
+    let one = at w t c.time_at-in-Fold.result range (IsOffset-shown z (unix_seconds_of w) t is.1) c.time_at-in-Fold.ensures in
+    let two = at w u c.time_at-in-Fold-2.result range (IsOffset-shown z (unix_seconds_of w) u is.2) c.time_at-in-Fold-2.ensures in
+    let first : AreTimesOf z w (local_times.Fold c.time_at-in-Fold.result (wall_at w (unix_seconds_of w -ℤ u))) =
     subst (λ (v : Local). AreTimesOf z w (local_times.Fold v (wall_at w (unix_seconds_of w -ℤ u)))) one (times-fold z w t u is) in
-    subst (λ (v : Local). AreTimesOf z w (local_times.Fold c.assume_offset-in-Fold.result v)) two first
+    subst (λ (v : Local). AreTimesOf z w (local_times.Fold c.time_at-in-Fold.result v)) two first
 
 pub returns-in-Gap : goal.returns-in-Gap
 returns-in-Gap c =
@@ -134,15 +139,16 @@ returns-in-Gap c =
     let s = c.in-Gap.second in
     let range = c.second_shown.ensures.wall_in_range in
     let is = found z w c.second_shown.result c.instants_of.result (Gap t u s) range c.second_shown.ensures.value c.in-Gap.is c.instants_of.ensures in
-    let offsets = IsOffset-gap z (unix_seconds_of w) t u s is in
-    let near = IsTailSecond-gap z (unix_seconds_of w) t u s (IsSecond-instant w range) is in
-    let e = same w t range offsets.0 in
-    let f = same w u range offsets.1 in
+    let near = IsOffset-gap z (unix_seconds_of w) t u s is in
+    let tail = IsTailSecond-gap z (unix_seconds_of w) t u s (IsSecond-instant w range) is in
     let g : to_z w64 (of_z w64 s) ≡ s = omega (arith, signed_arith) in
-    let o = c.offset_from-after.ensures in
-    let p = c.offset_from-before.ensures in (
+    let after = c.time_at-after.result in
+    let before = c.time_at-before.result in (
       none-gap z w t u s is,
-      IsGap-seconds z w t u s _ is g (omega (arith, signed_arith)) (omega (arith, signed_arith)),
-      subst (λ (i : ℤ). ShownIn z i c.to_zone.result) c.assume_offset-in-Gap.ensures.instant c.to_zone.ensures.value,
-      subst (λ (i : ℤ). ShownIn z i c.to_zone-in-Gap.result) c.assume_offset-in-Gap-2.ensures.instant c.to_zone-in-Gap.ensures.value,
+      IsGap-seconds z w t u s _ is g (offset_at w u c.offset.result before range near.1 c.time_at-before.ensures c.offset.ensures.value)
+          (offset_at w t c.offset-in-Gap.result after range near.0 c.time_at-after.ensures c.offset-in-Gap.ensures.value),
+      subst (λ (i : ℤ). ShownIn z i c.to_zone.result)
+          (instant_at w _ c.offset-in-Gap.result after c.time_at-after.ensures c.offset-in-Gap.ensures.value) c.to_zone.ensures.value,
+      subst (λ (i : ℤ). ShownIn z i c.to_zone-in-Gap.result)
+          (instant_at w _ c.offset.result before c.time_at-before.ensures c.offset.ensures.value) c.to_zone-in-Gap.ensures.value,
     )

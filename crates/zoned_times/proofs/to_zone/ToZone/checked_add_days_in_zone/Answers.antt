@@ -1,4 +1,4 @@
-use Rattle.std.proofs.Common.{◌≡◌, ◌∙◌, ℤ, pos, ◌+ℤ◌, ◌*ℤ◌, Option, Some, None, to_z, of_z, arith, subst}
+use Rattle.std.proofs.Common.{◌≡◌, ℤ, pos, ◌+ℤ◌, ◌*ℤ◌, Option, to_z, of_z, arith, subst}
 use mir.Syntax.{w64}
 use Rattle.calendar_values.specs.Clock.{nanos_per_day}
 use Rattle.calendar_values.specs.SignedArith.{signed_arith}

@@ -1,4 +1,4 @@
-use Rattle.std.proofs.Common.{◌≡◌, ◌∙◌, ℤ, Option, Some, None, to_z, of_z, arith, subst}
+use Rattle.std.proofs.Common.{◌≡◌, ℤ, Option, to_z, of_z, arith, subst}
 use mir.Syntax.{w32}
 use Rattle.calendar_values.specs.SignedArith.{signed_arith}
 use Rattle.offset_times.specs.Local.{Local}

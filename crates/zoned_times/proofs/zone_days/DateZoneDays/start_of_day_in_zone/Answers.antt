@@ -2,10 +2,10 @@ use Rattle.std.proofs.Common.{◌≡◌, ◌∙◌, ℤ, pos, ◌*ℤ◌, Option
 use mir.Syntax.{w32, w64}
 use Rattle.calendar_values.specs.SignedArith.{signed_arith}
 use Rattle.calendar_values.specs.Range.{IsDay}
-use Rattle.calendar_values.specs.WallClock.{SomeInRange, unix_seconds_of}
+use Rattle.calendar_values.specs.WallClock.{SomeInRange}
 use Rattle.offset_times.specs.Local.{shown_at, wall_at}
 use Rattle.utc_times.specs.UnixTime.{instant_of_second}
-use Rattle.zones.specs.Ranges.{IsNear, IsTailSecond}
+use Rattle.zones.specs.Ranges.{IsNear}
 use Rattle.zones.specs.Zones.{ZoneParts, IsDayStart, IsZoneOffset}
 use Rattle.zoned_times.specs.Zoned.{HasOffset}
 use Rattle.zoned_times.proofs.PlaceLemmas.{IsFirstOf-second, HasOffset-second, second-whole}
