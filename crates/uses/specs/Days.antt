@@ -1,15 +1,11 @@
 -- Days of work, and the Mondays of ISO weeks.
-use Rattle.std.specs.Prelude.{ℕ, ℤ, ◌==◌, ◌+◌, ◌-◌, if◌then◌else◌, nat_lt}
+use Rattle.std.specs.Prelude.{ℕ, ℤ, ◌==◌, if◌then◌else◌}
 use Rattle.calendar_values.specs.Refusals.{IsIsoWeekDateOfRange}
 use Rattle.calendar_values.specs.Weeks.{day_of_iso_week_date}
 
 -- the days from a day of the week, 0 for Monday, to the next that is no Saturday and no Sunday
 abbrev pub days_to_work : ℕ → ℕ
 days_to_work weekday = if weekday == 4 then 3 else (if weekday == 5 then 2 else 1)
-
--- the days from a day of the week to the next day of another name, or to the next of its own
-abbrev pub days_to_name : ℕ → ℕ → ℕ
-days_to_name from to = if nat_lt from to then to - from else (to + 7) - from
 
 -- the ISO year has this week, and its Monday is in the range
 abbrev pub IsIsoWeek : ℤ → ℕ → Type 0

@@ -3,10 +3,12 @@
 ghost use Rattle.std.specs.Prelude.{◌≡◌, ◌↔◌, ◌<◌, ◌≤◌, ◌+◌, ◌-◌, ◌*◌, ◌%◌, ◌+ℤ◌, ◌-ℤ◌, ◌*ℤ◌, ◌≤ℤ◌, ◌<ℤ◌, pos, IfSome, IsTrue, SomeIff};
 ghost use Rattle.calendar_values.specs.Calendar.{days_in_month, is_leap_year, year_of, month_of, day_of_month_of, day_of_calendar_date};
 ghost use Rattle.calendar_values.specs.Clock.{hour_of, minute_of};
+ghost use Rattle.calendar_values.specs.Months.{last_of_month};
+ghost use Rattle.calendar_values.specs.Occurrences.{next_occurrence, nth_next_occurrence, prev_occurrence};
 ghost use Rattle.calendar_values.specs.Range.{IsDay, SomeDay, IsYear};
 ghost use Rattle.calendar_values.specs.Weekday.{weekday_number};
 ghost use Rattle.calendar_values.specs.Weeks.{iso_week_of, iso_year_of, monday_of, weekday_of, weeks_in_year};
-ghost use Rattle.uses.specs.Days.{days_to_name, days_to_work, IsIsoWeek, monday_of_iso_week};
+ghost use Rattle.uses.specs.Days.{days_to_work, IsIsoWeek, monday_of_iso_week};
 
 use calendar_values::{Date, Month, SignedDuration, Time, Weekday, days_in_month};
 
@@ -118,50 +120,91 @@ pub fn next_working_day(date: Date) -> Option<Date>
     days_after(date, days_to_a_working_day(date))
 }
 
-/// How many days it is to the next day of that name, a week for the name of the date itself.
-pub fn days_to_weekday(date: Date, weekday: Weekday) -> u8
-    ensures value { result ≡ days_to_name (weekday_of date) (weekday_number weekday) }
-    ensures some { 1 ≤ result }
-    ensures few { result ≤ 7 }
-    ensures there { (weekday_of date + result) % 7 ≡ weekday_number weekday }
-{
-    let from = date.weekday().number_days_from_monday();
-    let to = weekday.number_days_from_monday();
-    if from < to { to - from } else { to + 7 - from }
-}
-
 /// The next day of that name, after the date, or None past the range.
 pub fn next_occurrence(date: Date, weekday: Weekday) -> Option<Date>
-    ensures value { SomeDay result (date +ℤ
-        pos (days_to_name (weekday_of date) (weekday_number weekday))) }
+    ensures value { SomeDay result (next_occurrence date (weekday_number weekday)) }
     ensures later { IfSome result (λ next. date <ℤ next) }
     ensures soon { IfSome result (λ next. next ≤ℤ (date +ℤ pos 7)) }
     ensures weekday { IfSome result (λ next. weekday_of next ≡ weekday_number weekday) }
 {
-    days_after(date, days_to_weekday(date, weekday))
-}
-
-/// How many days it is to the nth such day of the week after the date.
-pub fn days_to_nth_weekday(date: Date, weekday: Weekday, n: u8) -> u16
-    requires { 1 ≤ n }
-    ensures value { result ≡
-        days_to_name (weekday_of date) (weekday_number weekday) + 7 * (n - 1) }
-    ensures some { 7 * (n - 1) < result }
-    ensures few { result ≤ 7 * n }
-    ensures there { (weekday_of date + result) % 7 ≡ weekday_number weekday }
-{
-    u16::from(days_to_weekday(date, weekday)) + 7 * (u16::from(n) - 1)
+    date.checked_next_occurrence(weekday)
 }
 
 /// The nth such day of the week after the date, or None past the range.
 pub fn nth_next_occurrence(date: Date, weekday: Weekday, n: u8) -> Option<Date>
     requires { 1 ≤ n }
-    ensures value { SomeDay result (date +ℤ
-        pos (days_to_name (weekday_of date) (weekday_number weekday) + 7 * (n - 1))) }
+    ensures value { SomeDay result (nth_next_occurrence date (weekday_number weekday) n) }
     ensures later { IfSome result (λ next. date <ℤ next) }
     ensures weekday { IfSome result (λ next. weekday_of next ≡ weekday_number weekday) }
 {
-    date.checked_add_days(i64::from(days_to_nth_weekday(date, weekday, n)))
+    date.checked_nth_next_occurrence(weekday, n)
+}
+
+/// The last day of that name, before the date, or None before the range.
+pub fn prev_occurrence(date: Date, weekday: Weekday) -> Option<Date>
+    ensures value { SomeDay result (prev_occurrence date (weekday_number weekday)) }
+    ensures earlier { IfSome result (λ previous. previous <ℤ date) }
+    ensures near { IfSome result (λ previous. date ≤ℤ (previous +ℤ pos 7)) }
+    ensures weekday { IfSome result (λ previous. weekday_of previous ≡ weekday_number weekday) }
+{
+    date.checked_prev_occurrence(weekday)
+}
+
+/// The Monday of a roster: the next one, of a date that has one in the range.
+pub fn roster_begins(date: Date) -> Date
+    requires { IsDay (next_occurrence date 0) }
+    ensures monday { weekday_of result ≡ 0 }
+    ensures later { date <ℤ result }
+    ensures soon { result ≤ℤ (date +ℤ pos 7) }
+{
+    date.next_occurrence(Weekday::Monday)
+}
+
+/// How many days it is back from a day of the week to the last that is no Saturday and no Sunday.
+pub fn days_back_to_work(weekday: Weekday) -> u8
+    ensures some { 1 ≤ result }
+    ensures few { result ≤ 3 }
+    // A day earlier is as six days later.
+    ensures working { (weekday_number weekday + 6 * result) % 7 < 5 }
+{
+    match weekday {
+        Weekday::Monday => 3,
+        Weekday::Sunday => 2,
+        _ => 1,
+    }
+}
+
+/// The last day before the date that is no Saturday and no Sunday, or None before the range.
+#[tactic(auto, using(crate::specs::WorkDayLemmas::earlier_days))]
+pub fn work_day_before(date: Date) -> Option<Date>
+    ensures earlier { IfSome result (λ before. before <ℤ date) }
+    ensures near { IfSome result (λ before. date ≤ℤ (before +ℤ pos 3)) }
+    ensures working { IfSome result (λ before. weekday_of before < 5) }
+{
+    days_before(date, days_back_to_work(date.weekday()))
+}
+
+/// How many days of a weekend there are up to a day of the week, with it.
+pub fn days_of_weekend(weekday: Weekday) -> u8
+    ensures few { result ≤ 2 }
+    ensures working { (weekday_number weekday + 6 * result) % 7 < 5 }
+{
+    match weekday {
+        Weekday::Saturday => 1,
+        Weekday::Sunday => 2,
+        _ => 0,
+    }
+}
+
+/// The last day of the month of the date that is no Saturday and no Sunday. None out of range.
+#[tactic(auto, using(crate::specs::WorkDayLemmas::earlier_days))]
+pub fn last_work_day(date: Date) -> Option<Date>
+    ensures working { IfSome result (λ day. weekday_of day < 5) }
+    ensures not_after { IfSome result (λ day. day ≤ℤ last_of_month date) }
+    ensures near { IfSome result (λ day. last_of_month date ≤ℤ (day +ℤ pos 2)) }
+{
+    let last = date.last_of_month();
+    days_before(last, days_of_weekend(last.weekday()))
 }
 
 /// The same by the day of the week alone. None past the range.

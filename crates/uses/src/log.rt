@@ -2,6 +2,7 @@
 
 ghost use Rattle.std.specs.Prelude.{◌≡◌, ◌≢◌, ◌↔◌, ◌⊎◌, ◌-ℤ◌, ◌<ℤ◌, ◌≤ℤ◌, ℤ, All, IsSortedByKey, true, ◌++◌, [], ◌∷◌, Contains, IfOk, IfSome};
 ghost use Rattle.std.specs.Prelude.{◌-◌, ◌<◌, false, vec_len, IsNone, IsPermutation, IsSorted, IsTrue, OnErr, OnOk, if◌then◌else◌};
+ghost use Rattle.std.specs.Prelude.{filter, int_le, int_lt, length};
 ghost use Rattle.std.specs.List.{HoldsAt};
 ghost use Rattle.std.specs.List.Sorted.{IsStableByKey, IsStrictlySortedBy};
 ghost use Rattle.std.specs.Ordering.{int_cmp, on};
@@ -162,6 +163,44 @@ pub fn span(entries: &[Timestamp]) -> Option<SignedDuration>
     let first = logs::earliest(entries)?;
     let last = logs::latest(entries)?;
     Some(last - first)
+}
+
+/// Drops what is older than an instant from a log that has each instant once.
+pub fn keep_since(log: &mut Vec<Timestamp>, since: Timestamp)
+    requires { IsStrictlySortedBy int_cmp log.old.items }
+    ensures in_order { IsStrictlySortedBy int_cmp log.new.items }
+    ensures kept { log.new.items ≡ filter (λ entry. int_le since entry) log.old.items }
+    ensures none_older { All (λ entry. since ≤ℤ entry) log.new.items }
+{
+    logs::drop_before(log, since);
+}
+
+/// The entries from one instant on, up to another, of a log in order.
+pub fn between(log: &[Timestamp], from: Timestamp, until: Timestamp) -> &[Timestamp]
+    requires { IsSorted int_cmp log.now }
+    ensures exact { result.now ≡ filter (λ entry. int_lt entry until)
+        (filter (λ entry. int_le from entry) log.now) }
+    ensures before { All (λ entry. entry <ℤ until) result.now }
+    ensures in_order { IsSorted int_cmp result.now }
+{
+    logs::before(logs::from(log, from), until)
+}
+
+/// How many entries of a log in order are from an instant on.
+pub fn count_since(log: &[Timestamp], since: Timestamp) -> usize
+    requires { IsSorted int_cmp log.now }
+    ensures { result ≡ length (filter (λ entry. int_le since entry) log.now) }
+{
+    logs::from(log, since).len()
+}
+
+/// The entries up to an instant and those from it on, which are the whole log.
+pub fn parts(log: &[Timestamp], at: Timestamp) -> (&[Timestamp], &[Timestamp])
+    requires { IsSorted int_cmp log.now }
+    ensures whole { log.now ≡ result.0.now ++ result.1.now }
+    ensures before { result.0.now ≡ filter (λ entry. int_lt entry at) log.now }
+{
+    logs::split_at(log, at)
 }
 
 /// A line of a log, with the instant of its stamp.

@@ -19,25 +19,33 @@ pub fn next_midnight(at: UtcDateTime) -> Option<UtcDateTime>
     at.truncate_to_day().checked_add(SignedDuration::days(1))
 }
 
-/// The nanoseconds from a time of day until clocks next show another, over midnight if that is
-/// the earlier one.
-pub fn nanoseconds_until(from: Time, until: Time) -> i64
-    ensures same_day { from ≤ until → result ≡ pos until -ℤ pos from }
-    ensures over_midnight { until < from → result ≡ (pos until -ℤ pos from) +ℤ pos nanos_per_day }
-{
-    let start = from.nanosecond_of_day() as i64;
-    let end = until.nanosecond_of_day() as i64;
-    if start <= end {
-        end - start
-    } else {
-        end - start + 86_400_000_000_000
-    }
-}
-
 /// How long a window of a day lasts, such as 8 hours from 22:00 to 6:00.
 pub fn window_length(from: Time, until: Time) -> SignedDuration
     ensures same_day { from ≤ until → result ≡ pos until -ℤ pos from }
     ensures over_midnight { until < from → result ≡ (pos until -ℤ pos from) +ℤ pos nanos_per_day }
 {
-    SignedDuration::nanoseconds(nanoseconds_until(from, until))
+    let length = until - from;
+    if from <= until {
+        length
+    } else {
+        length + SignedDuration::DAY
+    }
+}
+
+/// How long the day has lasted at a time of day.
+pub fn since_midnight(time: Time) -> SignedDuration
+    ensures value { result ≡ pos time }
+    ensures not_negative { pos 0 ≤ℤ result }
+    ensures less { result <ℤ pos nanos_per_day }
+{
+    time - Time::MIDNIGHT
+}
+
+/// How long it is from a time of day to the end of the day: a day at midnight.
+pub fn left_of_day(time: Time) -> SignedDuration
+    ensures some { pos 0 <ℤ result }
+    ensures at_most { result ≤ℤ pos nanos_per_day }
+    ensures value { result ≡ pos nanos_per_day -ℤ pos time }
+{
+    SignedDuration::DAY - since_midnight(time)
 }

@@ -26,3 +26,12 @@ pub fn window_of(at: Timestamp) -> Timestamp
 {
     Timestamp::from_seconds(first_second(at)).unwrap()
 }
+
+/// The beginning of the minute in UTC that holds the instant.
+pub fn minute_of(at: Timestamp) -> Timestamp
+    ensures value { result ≡ wall_multiple_below nanos_per_minute at }
+    ensures not_after { result ≤ℤ at }
+    ensures holds { at <ℤ (result +ℤ pos nanos_per_minute) }
+{
+    at.truncate_to_minute()
+}

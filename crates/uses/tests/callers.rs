@@ -7,10 +7,11 @@ use std::cmp::Ordering;
 use std::test::Fail;
 use uses::audit::Audit;
 use uses::periods::Period;
+use uses::tokens::Token;
 use uses::{
     agendas, any_moments, audit, batches, billing, constants, daily, date_texts, days, exchange,
     expiry, fronts, leases, log, meeting, midnight, milliseconds, moments, nights, offsets,
-    periods, replays, reports, retry, shown, timeouts, wall_texts, wholes,
+    periods, replays, reports, retry, shares, shown, timeouts, tokens, wall_texts, wholes, windows,
 };
 use utc_times::UtcDateTime;
 
@@ -45,6 +46,16 @@ fn midnights_and_starts_are_called(rt: HostRuntime) -> Result<(), Fail> {
         midnight::window_length(morning, evening),
         SignedDuration::hours(16),
     );
+    is(
+        &rt,
+        midnight::left_of_day(evening),
+        SignedDuration::hours(2),
+    );
+    is(
+        &rt,
+        midnight::left_of_day(Time::MIDNIGHT),
+        SignedDuration::DAY,
+    );
     is(&rt, retry::retry_at(utc(0)?, 3), utc(8)?);
     is(&rt, constants::started_at(None), UtcDateTime::UNIX_EPOCH);
     Ok(())
@@ -57,6 +68,48 @@ fn logs_are_called(rt: HostRuntime) -> Result<(), Fail> {
     log::sort(&mut entries)?;
     is(&rt, log::position(entries.as_slice(), utc(5)?), Some(1));
     is(&rt, log::accept(&mut entries, utc(4)?)?, false);
+    Ok(())
+}
+
+#[test]
+fn logs_are_cut(rt: HostRuntime) -> Result<(), Fail> {
+    let (one, two) = (Timestamp::from_seconds(1)?, Timestamp::from_seconds(2)?);
+    let mut log = [Timestamp::MIN, two, one].to_vec(rt.alloc())?;
+    log.sort()?;
+    is(&rt, log::count_since(&log, one), 2);
+    is(&rt, log::between(&log, one, two).len(), 1);
+    let (before, from) = log::parts(&log, two);
+    is(&rt, (before.len(), from.len()), (2, 1));
+    is(&rt, windows::minute_of(two), Timestamp::UNIX_EPOCH);
+    Ok(())
+}
+
+#[test]
+fn old_entries_are_dropped(rt: HostRuntime) -> Result<(), Fail> {
+    let mut log = [Timestamp::MIN, Timestamp::UNIX_EPOCH].to_vec(rt.alloc())?;
+    stamp_times::logs::put_in_order(&mut log)?;
+    log::keep_since(&mut log, Timestamp::UNIX_EPOCH);
+    is(&rt, log.len(), 1);
+    Ok(())
+}
+
+#[test]
+fn shares_and_tokens_are_called(rt: HostRuntime) -> Result<(), Fail> {
+    is(&rt, shares::share(1_000, 10, 30), 333);
+    is(&rt, shares::rest(1_000, 10, 30), 667);
+    let leap_day = Date::from_calendar_date(2024, Month::February, 29)?;
+    is(&rt, shares::share_of_month(1_000, leap_day), 1_000);
+    let one = Token {
+        issued: utc(0)?,
+        expires: utc(60)?,
+    };
+    let other = Token {
+        issued: utc(50)?,
+        expires: utc(90)?,
+    };
+    let (ten, twenty) = (SignedDuration::seconds(10), SignedDuration::seconds(20));
+    is(&rt, tokens::both_valid(one, other), Some(ten));
+    is(&rt, tokens::left(one, utc(40)?), Some(twenty));
     Ok(())
 }
 

@@ -125,6 +125,24 @@ fn days_of_a_name_are_found(rt: HostRuntime) -> Result<(), Fail> {
         days::nth_next_occurrence(Date::MAX, Weekday::Friday, 1),
         None,
     );
+    is(
+        &rt,
+        days::prev_occurrence(next_friday, Weekday::Friday),
+        Some(friday),
+    );
+    if friday.checked_next_occurrence(Weekday::Monday).is_some() {
+        is(&rt, days::roster_begins(friday), monday);
+    }
+    Ok(())
+}
+
+#[test]
+fn working_days_are_found_backwards(rt: HostRuntime) -> Result<(), Fail> {
+    let friday = Date::from_calendar_date(2024, Month::March, 1)?;
+    let monday = Date::from_calendar_date(2024, Month::March, 4)?;
+    let last = Date::from_calendar_date(2024, Month::March, 29)?;
+    is(&rt, days::work_day_before(monday), Some(friday));
+    is(&rt, days::last_work_day(monday), Some(last));
     Ok(())
 }
 
