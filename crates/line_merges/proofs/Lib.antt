@@ -14,3 +14,5 @@ pub mod TextLemmas
 pub mod MergeTextLemmas
 pub mod StepLemmas
 pub mod RunLemmas
+pub mod SortLemmas
+pub mod SortLawLemmas

@@ -240,3 +240,22 @@ lines_from-first instant place bytes some =
           ∙ ap (λ (z : List Line). line_at instant place bytes false ∷ z) (sym (lines_from-nil (reading_after instant (line_at instant place bytes false))
           next)))
     ]
+
+-- the first line of bytes, and those behind it, by the place of its line feed
+pub record FirstOf (bytes : List ℕ) (end : ℕ) : Type 0 where
+  pub line : take end bytes ≡ line_in bytes
+  pub rest : end < length bytes → drop (end + 1) bytes ≡ behind_line bytes
+  pub whole : length bytes ≤ end → bytes ≡ line_in bytes
+  pub none : length bytes ≤ end → [] ≡ behind_line bytes
+
+pub first_of-found : (bytes : List ℕ) (end : ℕ) → end ≤ length bytes → HasNone 10 bytes 0 end → (end < length bytes → get_or bytes end 0 ≡ 10)
+    → FirstOf bytes end
+first_of-found bytes end high none there =
+    let no_feed : length bytes ≤ end → has_line_feed bytes ≡ false =
+    λ past. no_line_feed bytes (subst (HasNone 10 bytes 0) (omega (arith, past, high)) none) in
+    record {
+      line = line_in-found bytes end high none there;
+      rest = λ low. sym (line_up_to bytes end none low (there low)).behind;
+      whole = λ past. sym (ended-none [] bytes (no_feed past)).line;
+      none = λ past. sym (ended-none [] bytes (no_feed past)).behind;
+    }

@@ -7,5 +7,7 @@ pub mod Lines
 pub mod Logs
 pub mod Merges
 pub mod Runs
+pub mod Sorts
+pub mod SortLaws
 pub mod Steps
 pub mod TextLaws

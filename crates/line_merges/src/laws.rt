@@ -1,5 +1,6 @@
 //! Laws of merges: each function here proves one, and does nothing when it is called.
 ghost use Rattle.line_merges.specs.Laws.{LinesKeepBytes, MergesAreInOrder, MergesAreOne, MergesKeepLogs, MergesKeepTogether};
+ghost use Rattle.line_merges.specs.SortLaws.{LateLinesAreTold, SortsAreInOrder};
 ghost use Rattle.line_merges.specs.TextLaws.{TextsAreMerged};
 
 /// A merge has the lines of each log, in their order, and no others.
@@ -33,4 +34,15 @@ pub fn lines_keep_bytes<M>()
 /// the merge is.
 pub fn texts_are_merged<M>()
     ensures { TextsAreMerged M }
+{}
+
+/// No line of a sorted log is earlier than the one before it.
+pub fn sorts_are_in_order()
+    ensures { SortsAreInOrder }
+{}
+
+/// `sort` reports no line of a log as late exactly if none is earlier than a line before it by more
+/// than the window.
+pub fn late_lines_are_told()
+    ensures { LateLinesAreTold }
 {}

@@ -7,3 +7,4 @@ pub mod instants;
 pub mod laws;
 pub mod logs;
 pub mod merges;
+pub mod sorts;
