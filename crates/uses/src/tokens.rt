@@ -44,7 +44,7 @@ pub fn both_valid(one: Token, other: Token) -> Option<SignedDuration>
 }
 
 /// How long a token is still valid: no longer than it was at first.
-pub fn left(token: Token, now: UtcDateTime) -> Option<SignedDuration>
+pub fn time_left(token: Token, now: UtcDateTime) -> Option<SignedDuration>
     requires { token.issued ≤ℤ now }
     ensures value { IfSome result (λ left. left ≡ token.expires -ℤ now) }
     ensures at_most { IfSome result (λ left. left ≤ℤ (token.expires -ℤ token.issued)) }

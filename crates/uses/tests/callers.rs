@@ -109,7 +109,7 @@ fn shares_and_tokens_are_called(rt: HostRuntime) -> Result<(), Fail> {
     };
     let (ten, twenty) = (SignedDuration::seconds(10), SignedDuration::seconds(20));
     is(&rt, tokens::both_valid(one, other), Some(ten));
-    is(&rt, tokens::left(one, utc(40)?), Some(twenty));
+    is(&rt, tokens::time_left(one, utc(40)?), Some(twenty));
     Ok(())
 }
 
