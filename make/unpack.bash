@@ -1,5 +1,7 @@
 # What ./stamps does with compressed files: a program of the system unpacks each into a pipe, and stamps reads the pipe.
 
+: "${command:?}" "${built:?}"
+
 # The files that are unpacked, and at the same places what unpacks each and the pipe that stands for it.
 packed=() unpackers=() pipes=()
 
@@ -51,8 +53,8 @@ with_pipe() {
 
 # Ends what unpacks a file, which may wait for a reader that does not come. It has a second to end by itself.
 end_unpacking() {
-    local rounds
-    for rounds in {1..20}; do
+    local _
+    for _ in {1..20}; do
         kill -0 "$1" 2> /dev/null || return 0
         sleep 0.05
     done
