@@ -103,6 +103,14 @@ impl Date {
 
     /// As [`Date::checked_next_occurrence`], of a date that is in range. The caller proves that it
     /// is.
+    ///
+    /// ```
+    /// let wednesday = Date::from_calendar_date(2023, Month::June, 28)?;
+    /// assert_eq!(rt;
+    ///     wednesday.next_occurrence(Weekday::Monday),
+    ///     Date::from_calendar_date(2023, Month::July, 3)?
+    /// );
+    /// ```
     pub fn next_occurrence(self, weekday: Weekday) -> Date
         requires { IsDay (next_occurrence self (weekday_number weekday)) }
         ensures value { result ≡ next_occurrence self (weekday_number weekday) }
@@ -115,6 +123,14 @@ impl Date {
 
     /// As [`Date::checked_prev_occurrence`], of a date that is in range. The caller proves that it
     /// is.
+    ///
+    /// ```
+    /// let wednesday = Date::from_calendar_date(2023, Month::June, 28)?;
+    /// assert_eq!(rt;
+    ///     wednesday.prev_occurrence(Weekday::Monday),
+    ///     Date::from_calendar_date(2023, Month::June, 26)?
+    /// );
+    /// ```
     pub fn prev_occurrence(self, weekday: Weekday) -> Date
         requires { IsDay (prev_occurrence self (weekday_number weekday)) }
         ensures value { result ≡ prev_occurrence self (weekday_number weekday) }
@@ -127,6 +143,14 @@ impl Date {
 
     /// As [`Date::checked_nth_next_occurrence`], of a number above 0 and a date that is in range.
     /// The caller proves both.
+    ///
+    /// ```
+    /// let wednesday = Date::from_calendar_date(2023, Month::June, 28)?;
+    /// assert_eq!(rt;
+    ///     wednesday.nth_next_occurrence(Weekday::Monday, 2),
+    ///     Date::from_calendar_date(2023, Month::July, 10)?
+    /// );
+    /// ```
     pub fn nth_next_occurrence(self, weekday: Weekday, n: u8) -> Date
         requires counted { 1 ≤ n }
         requires in_range { IsDay (nth_next_occurrence self (weekday_number weekday) n) }
@@ -138,6 +162,14 @@ impl Date {
 
     /// As [`Date::checked_nth_prev_occurrence`], of a number above 0 and a date that is in range.
     /// The caller proves both.
+    ///
+    /// ```
+    /// let wednesday = Date::from_calendar_date(2023, Month::June, 28)?;
+    /// assert_eq!(rt;
+    ///     wednesday.nth_prev_occurrence(Weekday::Monday, 2),
+    ///     Date::from_calendar_date(2023, Month::June, 19)?
+    /// );
+    /// ```
     pub fn nth_prev_occurrence(self, weekday: Weekday, n: u8) -> Date
         requires counted { 1 ≤ n }
         requires in_range { IsDay (nth_prev_occurrence self (weekday_number weekday) n) }

@@ -139,6 +139,18 @@ impl Date {
     /// As [`Date::checked_next_occurrence`], of a date that is in range. The caller proves that it
     /// is.
     ///
+    /// ```
+    /// # use muxandu::proved::*;
+    /// # fn main() -> Result<(), Box<dyn std::error::Error>> {
+    /// let wednesday = Date::from_calendar_date(2023, Month::June, 28)?;
+    /// assert_eq!(
+    ///     wednesday.next_occurrence(Weekday::Monday),
+    ///     Date::from_calendar_date(2023, Month::July, 3)?
+    /// );
+    /// # Ok(())
+    /// # }
+    /// ```
+    ///
     /// # Panics
     ///
     /// The call breaks a `requires` of the contract.
@@ -162,6 +174,18 @@ impl Date {
 
     /// As [`Date::checked_prev_occurrence`], of a date that is in range. The caller proves that it
     /// is.
+    ///
+    /// ```
+    /// # use muxandu::proved::*;
+    /// # fn main() -> Result<(), Box<dyn std::error::Error>> {
+    /// let wednesday = Date::from_calendar_date(2023, Month::June, 28)?;
+    /// assert_eq!(
+    ///     wednesday.prev_occurrence(Weekday::Monday),
+    ///     Date::from_calendar_date(2023, Month::June, 26)?
+    /// );
+    /// # Ok(())
+    /// # }
+    /// ```
     ///
     /// # Panics
     ///
@@ -187,6 +211,18 @@ impl Date {
     /// As [`Date::checked_nth_next_occurrence`], of a number above 0 and a date that is in range.
     /// The caller proves both.
     ///
+    /// ```
+    /// # use muxandu::proved::*;
+    /// # fn main() -> Result<(), Box<dyn std::error::Error>> {
+    /// let wednesday = Date::from_calendar_date(2023, Month::June, 28)?;
+    /// assert_eq!(
+    ///     wednesday.nth_next_occurrence(Weekday::Monday, 2),
+    ///     Date::from_calendar_date(2023, Month::July, 10)?
+    /// );
+    /// # Ok(())
+    /// # }
+    /// ```
+    ///
     /// # Panics
     ///
     /// The call breaks a `requires` of the contract.
@@ -209,6 +245,18 @@ impl Date {
 
     /// As [`Date::checked_nth_prev_occurrence`], of a number above 0 and a date that is in range.
     /// The caller proves both.
+    ///
+    /// ```
+    /// # use muxandu::proved::*;
+    /// # fn main() -> Result<(), Box<dyn std::error::Error>> {
+    /// let wednesday = Date::from_calendar_date(2023, Month::June, 28)?;
+    /// assert_eq!(
+    ///     wednesday.nth_prev_occurrence(Weekday::Monday, 2),
+    ///     Date::from_calendar_date(2023, Month::June, 19)?
+    /// );
+    /// # Ok(())
+    /// # }
+    /// ```
     ///
     /// # Panics
     ///
