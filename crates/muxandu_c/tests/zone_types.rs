@@ -73,7 +73,11 @@ fn has(rt: &impl Abort, item: MuxanduDateTime, wanted: (u8, i32)) {
 
 #[test]
 fn column_of_instants(rt: HostRuntime) {
-    let instants = [at(1_711_846_799, 0), at(1_711_846_800, 0), at(0, 1_000_000_000)];
+    let instants = [
+        at(1_711_846_799, 0),
+        at(1_711_846_800, 0),
+        at(0, 1_000_000_000),
+    ];
     let mut out = [midnight(1, 1, 1, 7); 3];
     let found = muxandu_timestamps_to_zone(&instants, berlin(&rt), &[], &mut out);
     is(&rt, (found.count, found.status), (2, 13));
