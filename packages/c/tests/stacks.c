@@ -58,6 +58,7 @@ static void zones(void) {
     MuxanduZone zone;
     MuxanduTimestamp instant = {1711846800, 0};
     MuxanduDateTime shown;
+    MuxanduDateTime later;
     MuxanduZoneInstants found;
     MuxanduTimeType kind;
     int32_t offset;
@@ -71,7 +72,7 @@ static void zones(void) {
     (void)muxandu_date_time_at_zone(shown, zone, rows, 1, MUXANDU_CHOICE_LATER, &shown);
     (void)muxandu_zone_offsets_at(zone, rows, 1, &instant.seconds, 1, &offset, 1);
     (void)muxandu_timestamps_to_zone(&instant, 1, zone, rows, 1, &shown, 1);
-    (void)muxandu_date_times_at_zone(&shown, 1, zone, rows, 1, MUXANDU_CHOICE_LATER, &shown, 1);
+    (void)muxandu_date_times_at_zone(&shown, 1, zone, rows, 1, MUXANDU_CHOICE_LATER, &later, 1);
     (void)muxandu_zone_type_at(zone, rows, 1, instant, &kind);
     (void)muxandu_zone_abbreviation_from_tzif(BERLIN, sizeof BERLIN - 1, 4, name, sizeof name);
     (void)muxandu_zone_name_check("Europe/Berlin", 13);
