@@ -36,6 +36,16 @@ impl PartialEq for Day {
     }
 }
 
+impl Sub for Day {
+    type Output = Day;
+
+    fn sub(self, other: Day) -> Day
+        ensures { result ≡ difference }
+    {
+        self
+    }
+}
+
 impl Model for Day {
     ghost view = { λ day. day.number };
 }
@@ -149,7 +159,7 @@ infix 4 ◌<<◌
 
 -- A day.
 unfoldable pub IsDay : Day → ℕ → Prop
-  = λ day n. value_of day ≡ n
+  = λ day n. value_of day ≡ n × IsWhole day × day.piece
 
 unfoldable pub value_of : Day → ℕ
   = λ day. day.number
@@ -159,6 +169,15 @@ a << b = a ≤ b
 
 unfoldable pub unrelated : ℕ
   = 7
+
+pub record IsWhole (day : Day) : Type 0 where
+  pub part : value_of day ≡ 0
+
+pub record IsOther : Type 0 where
+  pub part : ℕ
+
+pub record IsNamed : Type 0 where
+  pub piece : ℕ
 
 pub some_lemma : 1 ≡ 1
   = refl
@@ -217,6 +236,12 @@ fn other(day: Day) -> Day
     day
 }
 
+fn later(day: Day) -> Day
+    ensures { IsDay result day }
+{
+    day.next()
+}
+
 impl Steps for Day {
     fn step(self) -> Self {
         self
@@ -273,6 +298,14 @@ OF_SPECS = OF_SPECS.replace("    let next = day;", "  = Follow")
 NAMES_MORE = BODY.replace("let next = day;", "let next = Day::first_of(hidden_step(), FIRST);")
 OF_TRAIT = BODY.replace("function: after", "function: DaySteps::step").replace("    let next = day.next();", "        self")
 OF_VALUE = BODY.replace("function: after", "function: mapped").replace("let next = day.next();", "map(day, by_value)")
+OF_SIGN, OF_PATH, OF_MODULE = (
+    BODY.replace("= day;", f"= {it};") for it in ("day - day", "by::<dyn Sub>(day)", "days::plain(day)")
+)
+OF_METHOD = (
+    BODY.replace("function: after", "function: later")
+    .replace("let next = day.next();", "day.next()")
+    .replace("let next = day;", "day")
+)
 OF_INNER = (
     BODY.replace("function: after", "function: inner::deep")
     .replace("src/lib.rt", "src/inner.rt")
@@ -327,6 +360,10 @@ CHANGES = {
     "of_the_contract_of_a_function_that_it_passes": (TOP, "ensures { result ≡ day }", "ensures { result ≡ next }", OF_VALUE),
     "of_the_contract_of_a_function_that_the_body_names": (LOW, "value_of result ≡ number", "value_of result ≡ 1"),
     "of_the_contract_of_an_operator": (LOW, "same self other", "same other self"),
+    "of_the_contract_of_an_operator_whose_sign_the_body_has": (LOW, "result ≡ difference", "result ≡ same", OF_SIGN),
+    "of_the_contract_of_an_operator_whose_trait_the_body_names": (LOW, "result ≡ difference", "result ≡ same", OF_PATH),
+    "of_a_function_of_a_module_that_the_body_names": (LOW, "result ≡ Left", "result ≡ Right", OF_MODULE),
+    "of_a_field_that_a_definition_names": (SPECS, "pub piece : ℕ", "pub piece : ℤ"),
     "of_the_contract_by_which_a_fault_is_converted": (KIND, "result ≡ failure", "result ≡ fault"),
     "of_a_type_that_it_has": (LOW, "pub number: i64", "pub number: i32"),
     "of_a_type_in_a_type_that_it_has": (KIND, "    Other,", "    Others,"),
@@ -378,6 +415,19 @@ KEEPS = {
     "of_a_definition_of_that_name_elsewhere": ("crates/low/specs/Most.antt", "  = 2", "  = 3"),
     "of_a_function_that_nothing_calls": (LOW, "ensures { result ≡ 1 }", "ensures { result ≡ 2 }"),
     "of_a_crate_above": ("crates/top/src/lib.rt", "result ≡ 1", "result ≡ 2"),
+    "of_a_block_of_functions_that_nothing_calls": (
+        LOW,
+        "impl Model for Day",
+        "impl Day {\n    fn last() -> u8 {}\n}\n\nimpl Model for Day",
+    ),
+    "of_a_function_with_the_name_of_a_method": (
+        KIND,
+        "pub struct Failure;",
+        "pub struct Failure;\n\npub fn next() -> u8 {}\n",
+        OF_METHOD,
+    ),
+    "of_an_operator_without_its_sign": (LOW, "result ≡ difference", "result ≡ same"),
+    "of_a_record_with_a_field_of_that_name": (SPECS, "pub part : ℕ", "pub part : ℤ"),
 }
 
 

@@ -13,11 +13,21 @@ from dataclasses import dataclass, field
 from shared.definitions import declarations
 from shared.verdicts import sum_of
 
-# Words of a text, also those of operators; names as Rust has them; and names that a text calls, as functions, methods or macros, and
-# the last names of paths.
+# Words of a text, also those of operators; names as Rust has them; names that a text calls, as functions, methods or macros, and the
+# last names of paths; names that are methods or of a type, which no function of a module is; and names after a module.
 WORD = re.compile(r"[^\s(){}\[\],;.:\"λ«»]+")
 NAME = re.compile(r"[A-Za-z_]\w*")
 CALLED = re.compile(r"\b([A-Za-z_]\w*)(?:!|\(|::<)|::([A-Za-z_]\w*)")
+OF_TYPE = re.compile(r"(?:(?<!\.)\.|>::|\b(?:[A-Z]\w*|[iu](?:8|16|32|64|128|size)|f32|f64|bool|char|str)::)[A-Za-z_]\w*")
+OF_MODULE = re.compile(r"\b[a-z]\w*::([a-z_]\w*)")
+
+# The traits of operators, each with its sign. Code without the sign applies none of these, but where it names the trait. A sign of
+# two values has a blank after it, and one before a number makes no call.
+SIGNS = {"Add": r"\+", "Div": "/", "Rem": "%", "BitXor": r"\^", "Shl": "<<"}
+SIGNS |= {"Sub": r"-(?=\s)", "Mul": r"\*(?=\s)", "BitAnd": r"(?<!&)&(?=\s)", "BitOr": r"(?<!\|)\|(?=\s)", "Shr": r">>(?=\s)"}
+SIGNS |= {f"{trait}Assign": f"{sign.partition('(?=')[0]}=" for trait, sign in SIGNS.items()}
+SIGNS |= {"Neg": r"-(?=[^\s=>0-9])", "Not": r"(?<!\w)!(?!=)"}
+SIGNS = {trait: re.compile(sign) for trait, sign in SIGNS.items()}
 
 # The lines that begin items, and the names that an item declares.
 FUNCTION = re.compile(r"(?:pub(?:\([^)]*\))? |default |const |async |unsafe |extern \"C\" )*fn (?P<name>\w+)")
@@ -57,8 +67,9 @@ class Import:
 
 @dataclass(eq=False)
 class Part:
-    """A part of a file: what it is, its crate and file, the names that lead to it, and its text. Then the words in the text, those
-    of them that it calls, and the files that it imports definitions from: by each name, and those that it may take any name of.
+    """A part of a file: what it is, its crate and file, the names that lead to it, and its text. Then the words in the text, those of
+    its code, those of them that it calls and that may be functions of a module, the signs of operators in what runs of it, and the
+    files that it imports definitions from: by each name, and those that it may take any name of.
     """
 
     kind: str
@@ -70,6 +81,8 @@ class Part:
     words: frozenset = frozenset()
     values: frozenset = frozenset()
     called: frozenset = frozenset()
+    free: frozenset = frozenset()
+    signs: frozenset = frozenset()
     cited: dict = field(default_factory=dict)
     whole: frozenset = frozenset()
     # of an impl block, and of a function in one: the names of its types, and those of its trait and of what that is applied to
@@ -125,6 +138,29 @@ def without_imports(path, text):
 def called_in(text):
     """The names that a text calls."""
     return frozenset(name for pair in CALLED.findall(text) for name in pair if name)
+
+
+def free_in(code, own, imports):
+    """The names in code that may be functions of a module: those after a module's name, and those that this file has or imports."""
+    left = OF_TYPE.sub(" ", code)
+    known = {*own, *(it.name for it in imports)}
+    found = words_of(left)
+    return found if "*" in known else found & known | frozenset(OF_MODULE.findall(left))
+
+
+def once_in(text, names):
+    """Those of these names that stand in a text once."""
+    return {name for name in names if len(re.findall(rf"\b{re.escape(name)}\b", text)) == 1}
+
+
+def signs_in(code):
+    """The traits whose operators code has."""
+    return frozenset(trait for trait, sign in SIGNS.items() if sign.search(code))
+
+
+def functions_of(text):
+    """The names of the functions that a file has."""
+    return {match["name"] for match in map(FUNCTION.match, map(str.lstrip, text.split("\n"))) if match}
 
 
 def words_of_operator(name):
@@ -199,7 +235,7 @@ class Source:
 
     def __init__(self, crate, path, text):
         self.crate, self.path = crate, path
-        self.imports, self.parts = imports_of(path, text), []
+        self.imports, self.parts, self.functions = imports_of(path, text), [], functions_of(text)
         self.cited, self.whole = cited_files(text, crate)
         # a name may come from any import of all names of a module
         self.rest = "\n".join(it.path for it in self.imports if it.name == "*")
@@ -214,15 +250,18 @@ class Source:
         part = Part(kind, self.crate, self.path, frozenset(names), text, sum_of(self.path, kind, whole, imports), words, **more)
         part.cited, part.whole = self.cited, self.whole
         part.values, part.called = words_of(code), called_in(code)
+        part.free, part.signs = free_in(code, self.functions, self.imports), signs_in(code)
         self.parts.append(part)
         return part
 
     def add_function(self, item, header="", **more):
         """Adds a function of a block with this header as two parts: its contract, and the whole of it."""
         name = FUNCTION.match(first_line(item))["name"]
-        text, (head, _) = without_comments(item), contract_and_body(item)
+        text, (head, body) = without_comments(item), contract_and_body(item)
         self.add("contract", [name], f"{header}\n{without_comments(head)}", is_free=not header, **more)
-        self.add("function", [name], f"{header}\n{text}", text, tactics="\n".join(TACTIC.findall(text)))
+        whole = self.add("function", [name], f"{header}\n{text}", text, tactics="\n".join(TACTIC.findall(text)))
+        # its clauses say numbers of definitions
+        whole.signs = signs_in(without_comments(body))
 
     def add_block(self, item):
         """Adds an impl block or a trait: its functions, and the block, with the contracts of its functions where they are a trait's."""
@@ -238,7 +277,9 @@ class Source:
                 own += [without_comments(contract_and_body(member)[0])] if kind == "trait" or trait else []
             else:
                 rest.append(without_comments(member))
-        # a block of a trait is seen by its types, and any other one by a type or by what it declares
+        # a block of a trait is seen by its types, and any other one by a type or by what it declares; one of functions alone says nothing
+        if kind == "impl" and not trait and not rest and not self.rest:
+            return
         names = [] if trait else [*types, *DECLARED.findall("\n".join(rest))]
         self.add(kind, names, "\n".join([header, *own, *rest]), "\n".join(rest), **({**of} if trait else {}))
 
@@ -321,8 +362,9 @@ def read_specs(crate, path, text):
         own = "\n".join(line for line in it.lines if not line.lstrip().startswith("-- "))
         names = frozenset(word for name in it.names for word in (name, *words_of_operator(name)))
         kind = "ruleset" if it.lines[0].startswith(("ruleset", "pub ruleset")) else "definition" if it.is_definition else "lemma"
-        words = words_of(own)
-        said = sum_of(path, own, rest, sorted(it.path for it in imports if it.words & words))
+        # a name that is declared there and stands there once, as that of a field, leads to no other of that name
+        words = words_of(own) - once_in(own, it.names)
+        said = sum_of(path, own, rest, sorted(it.path for it in imports if it.words & words_of(own)))
         parts.append(Part(kind, crate, path, names, own, said, words, cited=cited, whole=whole))
     parts += [passed_on(crate, path, it) for it in imports if it.is_public]
     return parts

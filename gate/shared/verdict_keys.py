@@ -9,7 +9,8 @@ name say, in this crate and in those below. Of a function that it calls it sees 
 - the contract of each method of its name, since one of a trait may have that of the trait,
 - the contracts of functions that it calls, in macros and constants that it names too,
 - the types, constants, traits, macros and impl blocks by each name in these, and so on: operators, `?` and `for` name no function,
-  so a type has the contracts of all traits that it implements,
+  so a type has the contracts of all traits that it implements; those of a trait of an operator only where code has its sign, or
+  something names the trait,
 - the definitions that these lead to, by the imports of each file, and so on,
 - the answers in proofs/ of the function, with the definitions that these name,
 - the attributes of the root of the crate, the kit, and the code that judges what a check prints.
@@ -26,7 +27,10 @@ import os
 from dataclasses import replace
 
 from shared.gate import read_text
-from shared.source_parts import Part, called_in, cited_files, read_source, read_specs, without_imports, words_of
+
+from shared.source_parts import (
+    OF_TYPE, SIGNS, Part, called_in, cited_files, ending, read_source, read_specs, signs_in, without_imports, words_of,
+)  # fmt: skip
 from shared.verdicts import sum_of
 from shared.wrong import is_in_function, put_body
 
@@ -135,7 +139,7 @@ class Names:
         is_any = part.kind == "macro" or any(self.is_macro(name) for name in part.called)
         for word in part.values:
             for contract in self.contracts.get(word, ()):
-                if is_any or contract.is_free or word in part.called:
+                if is_any or word in (part.free if contract.is_free else part.called):
                     yield contract
 
     def defined_by(self, part):
@@ -177,14 +181,20 @@ class Names:
 
     def reached_from(self, parts):
         """All parts that these lead to, with them and the imports of all names."""
-        reached, types, left = set(), set(), set(self.blocks)
+        reached, types, applied, left = set(), set(), set(), set(self.blocks)
         new = {*parts, *self.seen.get("", ())}
         while new:
             reached |= new
             left = left.union(*map(self.next_to, new)) - reached
             types.update(*(self.types_in[part] for part in new))
-            new = {part for part in left if self.needs.get(part, frozenset()) <= types}
+            applied.update(*(part.signs | part.words & SIGNS.keys() for part in new))
+            new = {part for part in left if self.needs.get(part, frozenset()) <= types and is_applied(part, applied)}
         return reached
+
+
+def is_applied(part, applied):
+    """Whether a part is no block of an operator's trait, or of one of these."""
+    return not (part.kind == "impl" and part.trait) or part.trait[0] not in SIGNS or part.trait[0] in applied
 
 
 class Keys:
@@ -258,8 +268,12 @@ class Keys:
     def part_of(kind, name, path, file, text, code=""):
         """A part that no name leads to, of a file with that text."""
         cited, whole = cited_files(file, name)
-        words, called = words_of(without_imports(path, text)), called_in(code)
-        return Part(kind, name, path, frozenset(), text, sum_of(kind, path, text), words, words_of(code), called, cited, whole)
+        words, called, values = words_of(without_imports(path, text)), called_in(code), words_of(code)
+        # a change may import what it names
+        free, signs = (words_of(OF_TYPE.sub(" ", code)), signs_in(code)) if ending(path) == ".rt" else (values, frozenset())
+        return Part(
+            kind, name, path, frozenset(), text, sum_of(kind, path, text), words, values, called, free, signs, cited, whole
+        )
 
     def key(self, name, wrong):
         """The key of a wrong body of a crate, or None where it has no place in the sources, so that it has to be tried."""
