@@ -1,3 +1,4 @@
+pub mod Callers
 pub mod Device
 pub mod FaultLemmas
 pub mod InputLemmas
@@ -6,5 +7,7 @@ pub mod LineParts
 pub mod Lines
 pub mod StampTallies
 pub mod StampTallyLemmas
+pub mod TallyCallerLemmas
+pub mod Words
 pub mod Writing
 pub mod WritingLemmas

@@ -5,7 +5,6 @@ pub mod LineLemmas
 pub mod MergeLemmas
 pub mod OrderLemmas
 pub mod PassLemmas
-pub mod PlaceLemmas
 pub mod ReadLemmas
 pub mod ExistLemmas
 pub mod StateLemmas

@@ -12,7 +12,7 @@ use Rattle.line_devices.specs.WritingLemmas.{Appends-flushed, AppendsBeginning-f
 use Rattle.line_merges.proofs.LineLemmas.{lines_from-nil}
 use Rattle.line_merges.proofs.MergeLemmas.{IsMerge-same}
 use Rattle.line_merges.proofs.ExistLemmas.{merge_exists}
-use Rattle.line_merges.proofs.PlaceLemmas.{log-stamps, place-back}
+use Rattle.line_merges.specs.PlaceLemmas.{log-stamps, place-back}
 use Rattle.line_merges.proofs.StateLemmas.{at_each}
 use Rattle.line_merges.proofs.StepLemmas.{buffer_of, still_left, still_read}
 use Rattle.line_merges.proofs.TextLemmas.{merge_text-more}

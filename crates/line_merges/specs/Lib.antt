@@ -1,4 +1,5 @@
 pub mod Buffers
+pub mod Callers
 pub mod Choices
 pub mod Instants
 pub mod Laws
@@ -6,8 +7,10 @@ pub mod LineFronts
 pub mod Lines
 pub mod Logs
 pub mod Merges
+pub mod PlaceLemmas
 pub mod Runs
 pub mod Sorts
 pub mod SortLaws
 pub mod Steps
 pub mod TextLaws
+pub mod Words

@@ -21,3 +21,6 @@ pub mod WithinLemmas
 pub mod Splits
 pub mod Samples
 pub mod Examples
+pub mod Callers
+pub mod HeadLemmas
+pub mod Words

@@ -1,4 +1,6 @@
 //! Whole logs, counted and merged.
+#![tactic(auto, using(line_merges::specs::Callers::callers))]
+
 ghost use Rattle.std.specs.Prelude.{◌≡◌, false, true, IfSome, IsTrue};
 ghost use Rattle.line_counts.specs.Stamps.{stamp_tally};
 ghost use Rattle.line_merges.specs.Runs.{AreNew, IsMerged, first_memories, log_states, output};

@@ -74,8 +74,12 @@ pub fn weekday_weeks_later(date: Date, weeks: i32) -> Weekday
 }
 
 /// The day a number of days before the date, or None before the range.
+#[tactic(auto, using(crate::specs::WorkDayLemmas::earlier_days))]
 pub fn days_before(date: Date, days: u8) -> Option<Date>
-    ensures { SomeDay result (date -ℤ pos days) }
+    ensures value { SomeDay result (date -ℤ pos days) }
+    // A day earlier is as six days later.
+    ensures weekday { IfSome result (λ before.
+        weekday_of before ≡ (weekday_of date + 6 * days) % 7) }
 {
     date.checked_sub(SignedDuration::days(i64::from(days)))
 }
@@ -175,7 +179,6 @@ pub fn days_back_to_work(weekday: Weekday) -> u8
 }
 
 /// The last day before the date that is no Saturday and no Sunday, or None before the range.
-#[tactic(auto, using(crate::specs::WorkDayLemmas::earlier_days))]
 pub fn work_day_before(date: Date) -> Option<Date>
     ensures earlier { IfSome result (λ before. before <ℤ date) }
     ensures near { IfSome result (λ before. date ≤ℤ (before +ℤ pos 3)) }
@@ -197,7 +200,6 @@ pub fn days_of_weekend(weekday: Weekday) -> u8
 }
 
 /// The last day of the month of the date that is no Saturday and no Sunday. None out of range.
-#[tactic(auto, using(crate::specs::WorkDayLemmas::earlier_days))]
 pub fn last_work_day(date: Date) -> Option<Date>
     ensures working { IfSome result (λ day. weekday_of day < 5) }
     ensures not_after { IfSome result (λ day. day ≤ℤ last_of_month date) }

@@ -60,3 +60,11 @@ pub log-stamps : {M : Type 0} (instant : LogReading M) (log : List ℕ)
 unfolding log_lines lines_from stamp_tally
 log-stamps instant log =
     lines-stamps instant first_place [] (whole_lines_of log) (last_piece (pieces_of log)) (refl, sym tally_of_kinds-nil)
+
+-- that of a log has the tally of its lines
+pub place-stamps : {M : Type 0} (instant : LogReading M) (log : List ℕ) (place : Place) → place ≡ place_after_lines first_place (log_lines instant log)
+    → place.stamps ≡ stamp_tally (log_lines instant log)
+place-stamps instant log place is = ap (λ (z : Place). z.stamps) is ∙ log-stamps instant log
+
+-- the rule that callers name
+pub ruleset places = place-stamps
