@@ -6,8 +6,10 @@ use Rattle.std.specs.Option.{option_cmp}
 use Rattle.std.specs.Ordering.{int_cmp, is_lt}
 use Rattle.line_merges.specs.Instants.{is_before}
 use Rattle.line_merges.specs.Lines.{Line}
-use Rattle.line_merges.specs.SortLaws.{IsWithin, NoneLateFrom}
-use Rattle.line_merges.specs.Sorts.{IsInOrderOf, first_lateness, is_late, late_after, late_after_lines, later_of}
+use Rattle.line_merges.specs.SortLaws.{AreNear, IsWithin, NoneLateFrom}
+use Rattle.line_merges.specs.Sorts.{IsInOrderOf, far_after, far_after_lines, first_distance, first_lateness, is_far, is_late}
+use Rattle.line_merges.specs.Sorts.{late_after, late_after_lines, later_of}
+use Rattle.line_merges.specs.declared.sorts.Distance.{Distance}
 use Rattle.line_merges.specs.declared.sorts.Held.{Held}
 use Rattle.line_merges.specs.declared.sorts.Lateness.{Lateness}
 
@@ -104,3 +106,43 @@ all_within lateness (line ∷ lines) zero =
 
 pub within : (window : ℤ) (lines : List Line) → (late_after_lines (first_lateness window) lines).count ≡ 0 → IsWithin window lines
 within window lines zero = (all_within (first_lateness window) lines zero).1
+
+-- ---- the distance from their places
+
+far_none : (distance : Distance) (before : ℕ) (lines : List Held) → AreNear distance.most before lines → far_after_lines distance before lines ≡ distance
+unfolding far_after_lines
+far_none distance before [] near = refl
+far_none distance before (line ∷ lines) near =
+    let same : far_after distance line.number (before + 1) ≡ distance = rw near.0 refl in
+    rw same (far_none distance (before + 1) lines near.1)
+
+pub near_none : (most : ℕ) (out : List Held) → AreNear most 0 out
+    → ((far_after_lines (first_distance most) 0 out).count ≡ 0) × ((far_after_lines (first_distance most) 0 out).first ≡ None)
+near_none most out near = let same = far_none (first_distance most) 0 out near in rw same (refl, refl)
+
+-- the count of far lines does not shrink
+far_grows : (distance : Distance) (before : ℕ) (lines : List Held) → (far_after_lines distance before lines).count ≡ 0 → distance.count ≡ 0
+unfolding far_after_lines
+far_grows distance before [] zero = zero
+far_grows distance before (line ∷ lines) zero =
+    let so = far_grows (far_after distance line.number (before + 1)) (before + 1) lines zero in
+    elim (cases_Bool (is_far distance.most line.number (before + 1))) [
+      | inl t ↦ absurd (omega (arith, rw t at so))
+      | inr t ↦ rw t at so
+    ]
+
+all_near : (distance : Distance) (before : ℕ) (lines : List Held) → (far_after_lines distance before lines).count ≡ 0
+    → AreNear distance.most before lines
+unfolding far_after_lines
+all_near distance before [] zero = tt
+all_near distance before (line ∷ lines) zero =
+    let so = far_grows (far_after distance line.number (before + 1)) (before + 1) lines zero in
+    elim (cases_Bool (is_far distance.most line.number (before + 1))) [
+      | inl t ↦ absurd (omega (arith, rw t at so))
+      | inr t ↦
+          let same : far_after distance line.number (before + 1) ≡ distance = rw t refl in
+          (t, all_near distance (before + 1) lines (subst (λ (z : Distance). (far_after_lines z (before + 1) lines).count ≡ 0) same zero))
+    ]
+
+pub near : (most : ℕ) (out : List Held) → (far_after_lines (first_distance most) 0 out).count ≡ 0 → AreNear most 0 out
+near most out zero = all_near (first_distance most) 0 out zero

@@ -8,7 +8,8 @@ use Rattle.line_merges.proofs.LineLemmas.{first_line, lines_from-first, lines_fr
 use Rattle.line_merges.specs.Instants.{LogReading, reading_from}
 use Rattle.line_merges.specs.LineFronts.{behind_line, line_in}
 use Rattle.line_merges.specs.Lines.{Line, first_place, lines_from, log_lines, place_after, place_after_lines, reading_after, reading_after_lines}
-use Rattle.line_merges.specs.Sorts.{HasRead, ReadsLine, held_as, held_text, late_after_lines, line_as}
+use Rattle.line_merges.specs.Sorts.{HasRead, ReadsLine, far_after, far_after_lines, held_as, held_text, late_after_lines, line_as}
+use Rattle.line_merges.specs.declared.sorts.Distance.{Distance}
 use Rattle.line_merges.specs.declared.sorts.Held.{Held}
 use Rattle.line_merges.specs.declared.sorts.Lateness.{Lateness}
 use Rattle.line_merges.specs.declared.sorts.Reading.{Reading}
@@ -104,3 +105,23 @@ pub held_text-all : (held : List Held) (place : ℕ) (text : List ℕ) → lengt
 unfolding held_text
 held_text-all held place text past so =
     sym (append-nil text) ∙ ap (λ (z : List Held). text ++ held_text z) (sym (drop_all place held past)) ∙ so
+
+-- the distance of lines from one of them on, behind so many
+far_behind : (held : List Held) (distance : Distance) (before : ℕ) (place : ℕ) (default : Held) → place < length held
+    → far_after_lines (far_after distance (slice_index_or held place default).number (before + 1)) (before + 1) (drop (place + 1) held)
+    ≡ far_after_lines distance before (drop place held)
+unfolding far_after_lines
+far_behind [] distance before place default low = absurd (omega (arith, low))
+far_behind (line ∷ held) distance before zero default low = refl
+far_behind (line ∷ held) distance before (suc place) default low =
+    let next : suc place + 1 ≡ suc (place + 1) = omega arith in
+    rw next (far_behind held distance before place default (omega (arith, low)))
+
+pub far-more : (held : List Held) (distance : Distance) (place : ℕ) (default : Held) → place < length held
+    → far_after_lines (far_after distance (slice_index_or held place default).number (place + 1)) (place + 1) (drop (place + 1) held)
+    ≡ far_after_lines distance place (drop place held)
+far-more held distance place default low = far_behind held distance place place default low
+
+pub far-all : (held : List Held) (distance : Distance) (place : ℕ) → length held ≤ place → distance ≡ far_after_lines distance place (drop place held)
+unfolding far_after_lines
+far-all held distance place past = ap (far_after_lines distance place) (sym (drop_all place held past))

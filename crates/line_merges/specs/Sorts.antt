@@ -1,5 +1,6 @@
 -- The lines of one log in the order of their instants.
-use Rattle.std.specs.Prelude.{◌≡◌, ℕ, ◌+◌, ◌-◌, ◌^◌, ◌&&◌, Bool, true, false, map, min, List, [], ◌∷◌, ◌++◌, ℤ, ◌-ℤ◌, int_lt, Option, Some, None, if◌then◌else◌}
+use Rattle.std.specs.Prelude.{◌≡◌, ℕ, ◌+◌, ◌-◌, ◌^◌, ◌&&◌, ◌||◌, nat_lt, Bool, true, false, map}
+use Rattle.std.specs.Prelude.{min, List, [], ◌∷◌, ◌++◌, ℤ, ◌-ℤ◌, int_lt, Option, Some, None, if◌then◌else◌}
 use Rattle.std.specs.Prelude.{IsPermutation, IsSortedByKey}
 use Rattle.std.specs.Io.KnownBytes.{Appends}
 use Rattle.std.specs.List.Sorted.{IsStableByKey}
@@ -7,6 +8,7 @@ use Rattle.std.specs.Option.{option_cmp, option_or}
 use Rattle.std.specs.Ordering.{int_cmp}
 use Rattle.line_merges.specs.Instants.{LogReading, is_before}
 use Rattle.line_merges.specs.Lines.{Line, first_place, line_at, log_lines, place_after, place_after_lines, reading_after, reading_after_lines}
+use Rattle.line_merges.specs.declared.sorts.Distance.{Distance}
 use Rattle.line_merges.specs.declared.sorts.Held.{Held}
 use Rattle.line_merges.specs.declared.sorts.Lateness.{Lateness}
 use Rattle.line_merges.specs.declared.sorts.Reading.{Reading}
@@ -46,12 +48,42 @@ unfoldable pub late_after_lines : Lateness → List Line → Lateness
 late_after_lines lateness [] = lateness
 late_after_lines lateness (line ∷ lines) = late_after_lines (late_after lateness line.number line.instant) lines
 
--- a held line: the instant up to a line, and its bytes
-abbrev pub held_as : Held → Option ℤ × List ℕ
-held_as held = (held.instant, held.bytes.now)
+-- a held line: the instant up to a line, its bytes, and its number
+abbrev pub held_as : Held → Option ℤ × (List ℕ × ℕ)
+held_as held = (held.instant, (held.bytes.now, held.number))
 
-abbrev pub line_as : Line → Option ℤ × List ℕ
-line_as line = (line.instant, line.bytes)
+abbrev pub line_as : Line → Option ℤ × (List ℕ × ℕ)
+line_as line = (line.instant, (line.bytes, line.number))
+
+-- no lines are far from their places
+abbrev pub first_distance : ℕ → Distance
+first_distance most = record { most = most; count = 0; first = None }
+
+-- whether a line of a number in the log is further from a place in the order than so many lines
+abbrev pub is_far : ℕ → ℕ → ℕ → Bool
+is_far most number place = nat_lt most (number - place) || nat_lt most (place - number)
+
+-- the lesser of two numbers, of which the first may be missing
+abbrev pub least_of : Option ℕ → ℕ → ℕ
+least_of None number = number
+least_of (Some first) number = min first number
+
+-- the distance with a line of this number, which is far or not
+abbrev pub far_by : Bool → Distance → ℕ → Distance
+far_by true distance number = record {
+  most = distance.most;
+  count = min (distance.count + 1) (2 ^ 64 - 1);
+  first = Some (least_of distance.first number);
+}
+far_by false distance number = distance
+
+abbrev pub far_after : Distance → ℕ → ℕ → Distance
+far_after distance number place = far_by (is_far distance.most number place) distance number
+
+-- the distance with lines, one after another, behind so many in the order
+unfoldable pub far_after_lines : Distance → ℕ → List Held → Distance
+far_after_lines distance before [] = distance
+far_after_lines distance before (line ∷ lines) = far_after_lines (far_after distance line.number (before + 1)) (before + 1) lines
 
 -- the next line of a log was taken in
 pub record ReadsLine {M : Type 0} (by : LogReading M) (bytes : List ℕ) (old new : Reading M) : Type 0 where
@@ -79,7 +111,7 @@ held_text [] = []
 held_text (line ∷ lines) = line.bytes.now ++ 10 ∷ held_text lines
 
 -- a log was sorted: each of its lines was written once, in the order of their instants
-pub record Sorts {M : Type 0} (by : LogReading M) (window : ℤ) (log : List ℕ) (old new : Option (List ℕ)) (sorted : Sorted M) : Type 0 where
+pub record Sorts {M : Type 0} (by : LogReading M) (window : ℤ) (most : ℕ) (log : List ℕ) (old new : Option (List ℕ)) (sorted : Sorted M) : Type 0 where
   pub held : List Held
   pub out : List Held
   pub lines : map held_as held ≡ map line_as (log_lines by log)
@@ -88,3 +120,4 @@ pub record Sorts {M : Type 0} (by : LogReading M) (window : ℤ) (log : List ℕ
   pub place : sorted.place ≡ place_after_lines first_place (log_lines by log)
   pub memory : sorted.memory ≡ (reading_after_lines by (log_lines by log)).memory
   pub lateness : sorted.lateness ≡ late_after_lines (first_lateness window) (log_lines by log)
+  pub distance : sorted.distance ≡ far_after_lines (first_distance most) 0 out

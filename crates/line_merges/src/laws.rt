@@ -1,6 +1,6 @@
 //! Laws of merges: each function here proves one, and does nothing when it is called.
 ghost use Rattle.line_merges.specs.Laws.{LinesKeepBytes, MergesAreInOrder, MergesAreOne, MergesKeepLogs, MergesKeepTogether};
-ghost use Rattle.line_merges.specs.SortLaws.{LateLinesAreTold, SortsAreInOrder};
+ghost use Rattle.line_merges.specs.SortLaws.{FarLinesAreTold, LateLinesAreTold, SortsAreInOrder};
 ghost use Rattle.line_merges.specs.TextLaws.{TextsAreMerged};
 
 /// A merge has the lines of each log, in their order, and no others.
@@ -45,4 +45,10 @@ pub fn sorts_are_in_order()
 /// than the window.
 pub fn late_lines_are_told()
     ensures { LateLinesAreTold }
+{}
+
+/// `sort` reports no line of a log as far exactly if the order has each line within the number of
+/// lines from its place in the log.
+pub fn far_lines_are_told()
+    ensures { FarLinesAreTold }
 {}

@@ -4,7 +4,8 @@ ghost use Rattle.std.specs.Io.KnownBytes.{Appends};
 ghost use Rattle.line_devices.specs.Writing.{MarksFailure, Sends};
 ghost use Rattle.line_merges.specs.Instants.{reading_from};
 ghost use Rattle.line_merges.specs.LineFronts.{behind_line, line_in};
-ghost use Rattle.line_merges.specs.Sorts.{HasRead, IsInOrderOf, ReadsLine, Sorts, first_lateness, held_text, is_late, late_after};
+ghost use Rattle.line_merges.specs.Sorts.{HasRead, IsInOrderOf, ReadsLine, Sorts, far_after, far_after_lines, first_distance, first_lateness};
+ghost use Rattle.line_merges.specs.Sorts.{held_text, is_far, is_late, late_after, least_of};
 
 use crate::instants::{Instants, is_before, up_to};
 use crate::logs::Place;
@@ -14,13 +15,16 @@ use line_devices::sending::{Pending, flush, send};
 use line_devices::stamp_tallies::kind_of;
 use std::alloc::{AllocError, Global};
 
-/// A line of a log: the instant up to it, and its bytes without the line feed.
+/// A line of a log: the instant up to it, its bytes without the line feed, and its number from 1
+/// on, at most 2^64 - 1.
 #[derive(Clone, Copy, Debug)]
 pub struct Held<'a> {
     /// The instant.
     pub instant: Option<i128>,
     /// The bytes.
     pub bytes: &'a [u8],
+    /// The number.
+    pub number: u64,
 }
 
 /// Which lines of a log are earlier than a line before them by more than a window.
@@ -33,6 +37,17 @@ pub struct Lateness {
     /// The number of these lines, at most 2^64 - 1.
     pub count: u64,
     /// The number of the first of them in the log.
+    pub first: Option<u64>,
+}
+
+/// Which lines of a sorted log are further from their place in the log than a number of lines.
+#[derive(Clone, Copy, Debug)]
+pub struct Distance {
+    /// The number.
+    pub most: u64,
+    /// The number of these lines, at most 2^64 - 1.
+    pub count: u64,
+    /// The least of their numbers in the log.
     pub first: Option<u64>,
 }
 
@@ -83,6 +98,50 @@ impl Lateness {
     }
 }
 
+impl Distance {
+    // That of no lines.
+    fn new(most: u64) -> Distance
+        ensures { result ≡ first_distance most }
+    {
+        Distance {
+            most,
+            count: 0,
+            first: None,
+        }
+    }
+
+    // The distance with a line of this number in the log, at a place in the order.
+    fn after(self, number: u64, place: u64) -> Distance
+        ensures { result ≡ far_after self number place }
+    {
+        if !is_far(self.most, number, place) {
+            return self;
+        }
+        Distance {
+            most: self.most,
+            count: self.count.saturating_add(1),
+            first: Some(least_of(self.first, number)),
+        }
+    }
+}
+
+// Whether a line of a number is further from a place than this number of lines.
+fn is_far(most: u64, number: u64, place: u64) -> bool
+    ensures { result ≡ is_far most number place }
+{
+    most < number.saturating_sub(place) || most < place.saturating_sub(number)
+}
+
+// The lesser of two numbers, of which the first may be missing.
+fn least_of(first: Option<u64>, number: u64) -> u64
+    ensures { result ≡ least_of first number }
+{
+    match first {
+        Some(first) => first.min(number),
+        None => number,
+    }
+}
+
 // Whether an instant is before the latest one by more than a window.
 fn is_late(window: i128, latest: Option<i128>, instant: Option<i128>) -> bool
     ensures { result ≡ is_late window latest instant }
@@ -127,8 +186,12 @@ impl<'a, M> Reading<'a, M> {
         let own = instants.instant_of(0, &self.memory, place.last, place.lines == 0, bytes);
         let kind = kind_of(bytes, own.is_some());
         let instant = up_to(place.last, own);
-        self.held.push(Held { instant, bytes })?;
         let number = place.lines.saturating_add(1);
+        self.held.push(Held {
+            instant,
+            bytes,
+            number,
+        })?;
         instants.remember(0, &mut self.memory, number, kind, bytes);
         self.lateness = self.lateness.after(number, instant);
         self.place = Place {
@@ -181,6 +244,19 @@ fn sort_held(held: &mut Vec<Held<'_>>) -> Result<(), AllocError>
     Ok(())
 }
 
+// The distances of lines from their places in the log.
+fn distance_of(most: u64, held: &[Held<'_>]) -> Distance
+    ensures { result ≡ far_after_lines (first_distance most) 0 held.now }
+{
+    let mut distance = Distance::new(most);
+    let mut place = 0;
+    'lines: while place < held.len() {
+        distance = distance.after(held[place].number, place as u64 + 1);
+        place += 1;
+    }
+    distance
+}
+
 // Sends a line and a line feed.
 fn write_line<W: Sink>(
     writer: &mut W,
@@ -220,6 +296,8 @@ pub struct Sorted<M> {
     pub memory: M,
     /// Which of them are late.
     pub lateness: Lateness,
+    /// Which of them are far from their places.
+    pub distance: Distance,
 }
 
 /// The reason why a log was not sorted.
@@ -254,9 +332,11 @@ impl From<DeviceFault> for SortFault {
 /// Writes the lines of a log in the order of their instants, each with a line feed. Lines of one
 /// instant keep their order, and a line without an instant stays after the line before it.
 /// `Lateness` has the lines that are late: earlier than a line before them by more than a window.
+/// `Distance` has those that are further from their place in the log than a number of lines.
 pub fn sort<I: Instants, W: Sink>(
     instants: &I,
     window: i128,
+    most: u64,
     log: &[u8],
     memory: I::Memory,
     writer: &mut W,
@@ -265,7 +345,7 @@ pub fn sort<I: Instants, W: Sink>(
 where
     I::Memory: Drop,
     ensures sorted { IfOk result (λ sorted. Sorts
-        (reading_from (I.reading instants.now 0) memory) window log.now
+        (reading_from (I.reading instants.now 0) memory) window most log.now
         (W.written writer.old) (W.written writer.new) sorted) }
     ensures no_write_failed { OnOk result (W.is_marked writer.new ≡ W.is_marked writer.old) }
     ensures write { IsErrOf result SortFault.Write → W.is_marked writer.new ≡ true }
@@ -274,10 +354,12 @@ where
     let lateness = Lateness::new(window);
     let mut reading = read_lines(instants, lateness, log, memory, alloc)?;
     sort_held(&mut reading.held)?;
+    let distance = distance_of(most, reading.held.as_slice());
     write_held(writer, reading.held.as_slice())?;
     Ok(Sorted {
         place: reading.place,
         memory: reading.memory,
         lateness: reading.lateness,
+        distance,
     })
 }
