@@ -8,10 +8,11 @@ use Rattle.zones.specs.Zones.{ZoneParts}
 use Rattle.zones.specs.declared.time_type.TimeType.{TimeType}
 use Rattle.zones.specs.declared.transition.Transition.{Transition}
 use Rattle.zones.specs.declared.zone_error.ZoneError.{ZoneError}
+use Rattle.zone_files.specs.Blocks.{BlockParts, byte_at}
 use Rattle.zone_files.specs.Endings.{IsEnding, name_limit}
 use Rattle.zone_files.specs.FileReading.{FileParts}
 use Rattle.zone_files.specs.FileZones.{IsFileFault, IsFileZone, IsFaultAfter, IsZoneAfter}
-use Rattle.zone_files.specs.Kinds.{IsKindOf, IsRow}
+use Rattle.zone_files.specs.Kinds.{IsKindOf, IsRow, kind_before}
 use Rattle.zone_files.specs.declared.endings.Ending.{Ending}
 
 -- a zone after the first kind of local time of a file and what follows its transitions is one of the file
@@ -34,6 +35,13 @@ row_more file room i row low before here j lt =
           subst (λ (k : ℕ). IsRow file k (row_at (set room i row) k)) is
           (subst (λ (r : Transition). IsRow file i r) (sym (get_or-set_same room i row no_row low)) here)
     ]
+
+-- the kind after one transition is the one before the next
+pub kind_next : (block : BlockParts) (i : ℕ) (found : TimeType) → IsKindOf block (byte_at block.indexes i) found
+    → IsKindOf block (kind_before block.indexes (i + 1)) found
+kind_next block i found is = subst (λ (k : ℕ). IsKindOf block k found) (sym next) is where
+  next : kind_before block.indexes (i + 1) ≡ byte_at block.indexes i
+  next = grind arith
 
 -- one more row is added
 pub row_added : (file : FileParts) (rows : List Transition) (i : ℕ) (row : Transition) → length rows ≡ i

@@ -206,19 +206,6 @@ impl<'a> ZoneFile<'a> {
         }
     }
 
-    // The place of the kind of local time before a transition.
-    fn kind_before(&self, i: usize) -> usize
-        requires { i < length self.now.block.indexes }
-        ensures value { result ≡ kind_before self.now.block.indexes i }
-        ensures bound { result < self.now.count }
-    {
-        if i == 0 {
-            0
-        } else {
-            self.parsed.block.indexes[i - 1] as usize
-        }
-    }
-
     // The kind of local time at a place.
     fn kind(&self, k: usize) -> TimeType
         requires { k < self.now.count }
@@ -235,9 +222,10 @@ impl<'a> ZoneFile<'a> {
         make_ending(self.parsed.block.names, self.parsed.rule)
     }
 
-    // The transition at a place, if its second is in range.
-    fn row(&self, i: usize) -> Option<Transition>
-        requires { i < length self.now.block.indexes }
+    // The transition at a place, if its second is in range, from the kind of local time before it.
+    fn row(&self, i: usize, before: TimeType) -> Option<Transition>
+        requires place { i < length self.now.block.indexes }
+        requires before { IsKindOf self.now.block (kind_before self.now.block.indexes i) before }
         ensures some { IfSome result (λ row. IsRow self.now i row) }
         ensures none { IfNone result (IsSecond (time_at self.now.wide self.now.block.times i) → ⊥) }
     {
@@ -246,7 +234,6 @@ impl<'a> ZoneFile<'a> {
             return None;
         }
         let after = self.parsed.block.indexes[i] as usize;
-        let before = self.kind(self.kind_before(i));
         Some(transition(second, before, self.kind(after)))
     }
 
@@ -258,10 +245,15 @@ impl<'a> ZoneFile<'a> {
         ensures fault { IfErr result (λ e. IsRowFault self.now e) }
         ensures length { length room.new ≡ length room.old }
     {
+        let _ = &self.parsed;
         let count = self.transitions();
+        let mut before = self.kind(0);
         'rows: for i in 0..count {
-            match self.row(i) {
-                Some(row) => room[i] = row,
+            match self.row(i, before) {
+                Some(row) => {
+                    before = row.after;
+                    room[i] = row;
+                }
                 None => return Err(ZoneError::Row(i)),
             }
         }
@@ -287,11 +279,16 @@ impl<'a> ZoneFile<'a> {
         ensures { IfOk result (λ found. MatchResult found (λ rows. AreAllRows self.now rows.items)
             (λ e. IsRowFault self.now e)) }
     {
+        let _ = &self.parsed;
         let count = self.transitions();
         let mut rows = Vec::with_capacity(alloc, count)?;
+        let mut before = self.kind(0);
         'each: for i in 0..count {
-            match self.row(i) {
-                Some(row) => rows.push(row)?,
+            match self.row(i, before) {
+                Some(row) => {
+                    before = row.after;
+                    rows.push(row)?;
+                }
                 None => return Ok(Err(ZoneError::Row(i))),
             }
         }

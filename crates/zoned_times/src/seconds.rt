@@ -26,7 +26,7 @@ pub(crate) fn offset_at(zone: &Zone, second: i64) -> UtcOffset
     requires { IsSecond second }
     ensures { IsZoneOffset zone.now second result }
 {
-    offset_of(zone.offset_at(second))
+    zone.utc_offset_at(second)
 }
 
 // The wall clock of a Unix second at an offset, if it is in range.

@@ -9,5 +9,6 @@ pub mod MonthsLemmas
 pub mod RuleLemmas
 pub mod Sequences
 pub mod SettledLemmas
+pub mod SlotLemmas
 pub mod TableLemmas
 pub mod ZoneLemmas

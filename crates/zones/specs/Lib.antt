@@ -6,5 +6,6 @@ pub mod Laws
 pub mod Ranges
 pub mod Rules
 pub mod Seconds
+pub mod Slots
 pub mod Tables
 pub mod Zones

@@ -14,6 +14,7 @@ pub mod laws;
 mod local_instants;
 mod moment;
 mod rule_day;
+mod slot;
 mod tables;
 mod tail;
 mod time_type;

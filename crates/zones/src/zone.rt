@@ -1,6 +1,7 @@
 //! A time zone.
 ghost use Rattle.std.specs.Prelude.{◌≡◌, [], IfSome, IfNone, MatchResult};
 
+use crate::slot::Slot;
 use crate::{Cycle, Tail, TimeType, Transition, ZoneError, joined, tables};
 use std::marker::Model;
 
@@ -10,6 +11,7 @@ mod instants;
 mod intervals;
 mod owned;
 mod parts;
+mod slots;
 mod transitions;
 
 pub use owned::OwnedZone;
@@ -23,16 +25,19 @@ pub struct Zone<'a> {
     first: TimeType,
     rows: &'a [Transition],
     tail: Option<Tail>,
+    slots: &'a [Slot],
 }
 
 impl<'a> Model for Zone<'a> {
+    ghost use Rattle.zones.specs.Slots.{AreSlots};
     ghost use Rattle.zones.specs.Zones.{ZoneParts, IsZoneOf};
 
     ghost Value = { ZoneParts };
 
     ghost view = { λ z. record { first = z.first; rows = z.rows.now; tail = z.tail } };
 
-    ghost invariant = { λ z. IsZoneOf z.first z.rows.now z.tail };
+    ghost invariant = { λ z. IsZoneOf z.first z.rows.now z.tail
+        × AreSlots (record { first = z.first; rows = z.rows.now; tail = z.tail }) z.slots.now };
 }
 
 impl<'a> Zone<'a> {
@@ -47,6 +52,7 @@ impl<'a> Zone<'a> {
             first,
             rows: &[],
             tail: None,
+            slots: &[],
         }
     }
 
@@ -62,6 +68,7 @@ impl<'a> Zone<'a> {
                 first,
                 rows: &[],
                 tail: Some(tail),
+                slots: &[],
             }),
             None => None,
         }
@@ -87,6 +94,7 @@ impl<'a> Zone<'a> {
                 first,
                 rows,
                 tail: None,
+                slots: &[],
             });
         };
         match joined::tail_after(first, rows, cycle) {
@@ -94,6 +102,7 @@ impl<'a> Zone<'a> {
                 first,
                 rows,
                 tail: Some(tail),
+                slots: &[],
             }),
             None => Err(ZoneError::Rule),
         }

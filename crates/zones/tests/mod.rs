@@ -7,6 +7,7 @@ mod interval;
 mod laws;
 mod local_instants;
 mod rule_day;
+mod slots;
 mod zone;
 
 // Ends the test unless the two values are equal.

@@ -247,7 +247,7 @@ impl Zone {
     #[must_use]
     #[inline]
     pub fn offset_at(&self, at: impl Into<Timestamp>) -> UtcOffset {
-        offset_of(self.rules.zone().type_at(at.into().as_seconds()))
+        self.rules.zone().utc_offset_at(at.into().as_seconds())
     }
 
     /// The offsets of the zone at instants, in their order. Of instants between the same two

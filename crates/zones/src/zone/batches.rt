@@ -8,7 +8,7 @@ use crate::{Interval, Zone};
 
 impl<'a> Zone<'a> {
     // The interval that is kept if the second lies in it, and else that of the second.
-    fn interval_for(&self, kept: Interval, second: i64) -> Interval
+    pub(super) fn interval_for(&self, kept: Interval, second: i64) -> Interval
         requires second { IsSecond second }
         requires kept { Holds self.now kept }
         ensures holds { Holds self.now result }

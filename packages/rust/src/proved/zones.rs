@@ -12,6 +12,7 @@ mod joined;
 mod local_instants;
 mod moment;
 mod rule_day;
+mod slot;
 mod tables;
 mod tail;
 mod time_type;

@@ -254,25 +254,6 @@ impl<'a> ZoneFile<'a> {
         }
     }
 
-    // The place of the kind of local time before a transition.
-    /// # Contract
-    ///
-    /// ```text
-    /// requires { i < length self.now.block.indexes }
-    /// ensures value { result ≡ kind_before self.now.block.indexes i }
-    /// ensures bound { result < self.now.count }
-    /// ```
-    ///
-    /// [docs/proofs/STATEMENT.md](crate::proved#contracts) explains the words.
-    #[inline]
-    const fn kind_before(&self, i: usize) -> usize {
-        if i == 0 {
-            0
-        } else {
-            self.parsed.block.indexes[i - 1] as usize
-        }
-    }
-
     // The kind of local time at a place.
     /// # Contract
     ///
@@ -301,24 +282,24 @@ impl<'a> ZoneFile<'a> {
         make_ending(self.parsed.block.names, self.parsed.rule)
     }
 
-    // The transition at a place, if its second is in range.
+    // The transition at a place, if its second is in range, from the kind of local time before it.
     /// # Contract
     ///
     /// ```text
-    /// requires { i < length self.now.block.indexes }
+    /// requires place { i < length self.now.block.indexes }
+    /// requires before { IsKindOf self.now.block (kind_before self.now.block.indexes i) before }
     /// ensures some { IfSome result (λ row. IsRow self.now i row) }
     /// ensures none { IfNone result (IsSecond (time_at self.now.wide self.now.block.times i) → ⊥) }
     /// ```
     ///
     /// [docs/proofs/STATEMENT.md](crate::proved#contracts) explains the words.
     #[inline]
-    fn row(&self, i: usize) -> Option<Transition> {
+    fn row(&self, i: usize, before: TimeType) -> Option<Transition> {
         let second = second_at(self.parsed.is_wide, self.parsed.block.times, i);
         if !is_second(second) {
             return None;
         }
         let after = self.parsed.block.indexes[i] as usize;
-        let before = self.kind(self.kind_before(i));
         Some(transition(second, before, self.kind(after)))
     }
 
@@ -337,10 +318,15 @@ impl<'a> ZoneFile<'a> {
     /// [docs/proofs/STATEMENT.md](crate::proved#contracts) explains the words.
     #[inline]
     pub(in crate::proved) fn write_rows(&self, room: &mut [Transition]) -> Result<(), ZoneError> {
+        let _ = &self.parsed;
         let count = self.transitions();
+        let mut before = self.kind(0);
         'rows: for i in 0..count {
-            match self.row(i) {
-                Some(row) => room[i] = row,
+            match self.row(i, before) {
+                Some(row) => {
+                    before = row.after;
+                    room[i] = row;
+                }
                 None => return Err(ZoneError::Row(i)),
             }
         }
@@ -385,11 +371,16 @@ impl<'a> ZoneFile<'a> {
         &self,
         alloc: Global,
     ) -> Result<Result<crate::proved::memory::Vec<Transition>, ZoneError>, AllocError> {
+        let _ = &self.parsed;
         let count = self.transitions();
         let mut rows = crate::proved::memory::Vec::with_capacity(alloc, count)?;
+        let mut before = self.kind(0);
         'each: for i in 0..count {
-            match self.row(i) {
-                Some(row) => rows.push(row)?,
+            match self.row(i, before) {
+                Some(row) => {
+                    before = row.after;
+                    rows.push(row)?;
+                }
                 None => return Ok(Err(ZoneError::Row(i))),
             }
         }

@@ -30,7 +30,7 @@ pub(crate) fn offset_of(seconds: i32) -> UtcOffset {
 /// [docs/proofs/STATEMENT.md](crate::proved#contracts) explains the words.
 #[inline]
 pub(crate) fn offset_at(zone: &Zone, second: i64) -> UtcOffset {
-    offset_of(zone.offset_at(second))
+    zone.utc_offset_at(second)
 }
 
 // The wall clock of a Unix second at an offset, if it is in range.

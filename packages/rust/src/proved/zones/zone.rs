@@ -1,5 +1,6 @@
 // Made by make/erase of crates/zones/src/zone.rt. Do not edit.
 //! A time zone.
+use crate::proved::zones::slot::Slot;
 use crate::proved::zones::{Cycle, Tail, TimeType, Transition, ZoneError, joined, tables};
 mod batches;
 mod days;
@@ -7,6 +8,7 @@ mod instants;
 mod intervals;
 mod owned;
 mod parts;
+mod slots;
 mod transitions;
 
 pub use owned::OwnedZone;
@@ -19,6 +21,7 @@ pub struct Zone<'a> {
     first: TimeType,
     rows: &'a [Transition],
     tail: Option<Tail>,
+    slots: &'a [Slot],
 }
 
 impl<'a> Zone<'a> {
@@ -37,6 +40,7 @@ impl<'a> Zone<'a> {
             first,
             rows: &[],
             tail: None,
+            slots: &[],
         }
     }
 
@@ -59,6 +63,7 @@ impl<'a> Zone<'a> {
                 first,
                 rows: &[],
                 tail: Some(tail),
+                slots: &[],
             }),
             None => None,
         }
@@ -91,6 +96,7 @@ impl<'a> Zone<'a> {
                 first,
                 rows,
                 tail: None,
+                slots: &[],
             });
         };
         match joined::tail_after(first, rows, cycle) {
@@ -98,6 +104,7 @@ impl<'a> Zone<'a> {
                 first,
                 rows,
                 tail: Some(tail),
+                slots: &[],
             }),
             None => Err(ZoneError::Rule),
         }

@@ -1,5 +1,5 @@
 use Rattle.std.proofs.Common.{◌≡◌, ℤ, to_z, of_z, arith, refl, subst}
-use mir.Syntax.{w32, w64}
+use mir.Syntax.{w64}
 use Rattle.calendar_values.specs.SignedArith.{signed_arith}
 use Rattle.zones.specs.Zones.{IsZoneType}
 use Rattle.zone_files.proofs.zone_file.ZoneFile.abbreviation_at.Goals as goal

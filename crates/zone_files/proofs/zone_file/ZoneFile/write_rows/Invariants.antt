@@ -1,11 +1,12 @@
 use Rattle.std.proofs.Common.{◌≡◌, ◌<◌, ℕ, length}
 use Rattle.zones.specs.Tables.{row_at}
-use Rattle.zone_files.specs.Kinds.{IsRow}
+use Rattle.zone_files.specs.Kinds.{IsKindOf, IsRow, kind_before}
 use Rattle.zone_files.proofs.zone_file.ZoneFile.write_rows.Given as goal
 
 -- the rows so far are transitions of the file
 abbrev pub invariant-rows : goal.invariant-rows
 invariant-rows l = record {
   rows : (j : ℕ) → j < l.i → IsRow l.self j (row_at l.room j);
+  before : IsKindOf l.self.block (kind_before l.self.block.indexes l.i) l.before;
   same : length l.room ≡ length l.fn.room;
 }

@@ -13,7 +13,7 @@ back z h = omega (arith, signed_arith)
 pub returns-in-None-clause-first : goal.returns-in-None-clause-first
 returns-in-None-clause-first c =
     let z = c.args.self.now in
-    let zone = subst IsZone c.self.view_is c.self.invariant in
+    let zone = subst IsZone c.self.view_is c.self.invariant.0 in
     let local = c.args.local in
     let started = subst (λ (t : ℤ). IsStartedTransition z t None) (back local c.ranges.local) c.in-None.ensures in
     let f = ap (λ (p : ZoneParts). p.first.offset) c.self.view_is in
@@ -25,7 +25,7 @@ returns-in-None-clause-first c =
 pub returns-in-Some-clause-first : goal.returns-in-Some-clause-first
 returns-in-Some-clause-first c =
     let z = c.args.self.now in
-    let zone = subst IsZone c.self.view_is c.self.invariant in
+    let zone = subst IsZone c.self.view_is c.self.invariant.0 in
     let local = c.args.local in
     let row = c.in-Some.row in
     let started = subst (λ (t : ℤ). IsStartedTransition z t (Some row)) (back local c.ranges.local) c.in-Some.ensures in
@@ -45,7 +45,7 @@ returns-in-None-clause-near c =
 pub returns-in-Some-clause-near : goal.returns-in-Some-clause-near
 returns-in-Some-clause-near c =
     let z = c.args.self.now in
-    let zone = subst IsZone c.self.view_is c.self.invariant in
+    let zone = subst IsZone c.self.view_is c.self.invariant.0 in
     let local = c.args.local in
     let row = c.in-Some.row in
     let started = subst (λ (t : ℤ). IsStartedTransition z t (Some row)) (back local c.ranges.local) c.in-Some.ensures in

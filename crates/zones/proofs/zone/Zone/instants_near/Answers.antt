@@ -12,7 +12,7 @@ back z h = omega (arith, signed_arith)
 pub returns-in-None : goal.returns-in-None
 returns-in-None c =
     let z = c.args.self.now in
-    let zone = subst IsZone c.self.view_is c.self.invariant in
+    let zone = subst IsZone c.self.view_is c.self.invariant.0 in
     let local = c.args.local in
     let started = subst (λ (t : ℤ). IsStartedTransition z t None) (back local c.ranges.local) c.in-None.ensures in
     let f = ap (λ (p : ZoneParts). p.first.offset) c.self.view_is in
@@ -24,7 +24,7 @@ returns-in-None c =
 pub returns-in-Some : goal.returns-in-Some
 returns-in-Some c =
     let z = c.args.self.now in
-    let zone = subst IsZone c.self.view_is c.self.invariant in
+    let zone = subst IsZone c.self.view_is c.self.invariant.0 in
     let local = c.args.local in
     let row = c.in-Some.row in
     let started = subst (λ (t : ℤ). IsStartedTransition z t (Some row)) (back local c.ranges.local) c.in-Some.ensures in

@@ -15,7 +15,7 @@ tail_back z h = omega (arith, signed_arith)
 pub returns : goal.returns
 returns c =
     let z = c.args.self.now in
-    let zone = subst IsZone c.self.view_is c.self.invariant in
+    let zone = subst IsZone c.self.view_is c.self.invariant.0 in
     let e = back c.args.second c.ranges.second in
     interval_of z zone c.args.second c.requires c.last_transition.result c.next_transition.result c.second_or.result c.second_or-2.result _
     (tail_back c.second_or.result c.second_or.ensures.in_range) (tail_back c.second_or-2.result c.second_or-2.ensures.in_range)

@@ -1,5 +1,7 @@
 use Rattle.std.proofs.Common.{◌≡◌, Option, Some, None, arith, refl}
 use Rattle.zones.specs.declared.cycle.Cycle.{Cycle}
+use Rattle.zones.specs.Zones.{ZoneParts}
+use Rattle.zones.proofs.SlotLemmas.{no_slots}
 use Rattle.zones.proofs.TableLemmas.{forward_of}
 use Rattle.zones.proofs.zone.Zone.new.Goals as goal
 
@@ -8,7 +10,9 @@ no_rule None h = refl
 no_rule (Some c) h = absurd (h c refl)
 
 pub invariant_of-result : goal.invariant_of-result
-invariant_of-result c = forward_of c.args.first c.args.rows.now c.rows_in_order-count.result (omega arith) c.rows_in_order-count.ensures
+invariant_of-result c =
+    let zone : ZoneParts = record { first = c.args.first; rows = c.args.rows.now; tail = None } in
+    (forward_of c.args.first c.args.rows.now c.rows_in_order-count.result (omega arith) c.rows_in_order-count.ensures, no_slots zone)
 
 pub returns-in_default : goal.returns-in_default
 returns-in_default c = record {

@@ -28,7 +28,7 @@ returns-then-row-until-clause-between c =
 pub next_transition-next-requires-in-rows : goal.next_transition-next-requires-in-rows
 next_transition-next-requires-in-rows c =
     let z = c.args.self.now in
-    let zone = subst IsZone c.self.view_is c.self.invariant in
+    let zone = subst IsZone c.self.view_is c.self.invariant.0 in
     let found = c.rows.invariant.found in
     let next : NextIs z (found.0 + c.rows.count) (Some c.in-Some.row) = subst (λ (o : Option _). NextIs z (found.0 + c.rows.count) o) c.in-Some.is found.3
     in
@@ -42,7 +42,7 @@ next_transition-next-requires-in-rows c =
 pub rows-preserved : goal.rows-preserved
 rows-preserved c =
     let z = c.args.self.now in
-    let zone = subst IsZone c.self.view_is c.self.invariant in
+    let zone = subst IsZone c.self.view_is c.self.invariant.0 in
     let found = c.rows.invariant.found in
     let row = c.in-Some.row in
     let next : NextIs z (found.0 + c.rows.count) (Some row) = subst (λ (o : Option _). NextIs z (found.0 + c.rows.count) o) c.in-Some.is found.3 in

@@ -15,7 +15,7 @@ impl<'a> Zone<'a> {
     ///
     /// [docs/proofs/STATEMENT.md](crate::proved#contracts) explains the words.
     #[inline]
-    fn interval_for(&self, kept: Interval, second: i64) -> Interval {
+    pub(super) fn interval_for(&self, kept: Interval, second: i64) -> Interval {
         if kept.contains(second) {
             return kept;
         }

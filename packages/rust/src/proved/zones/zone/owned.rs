@@ -1,5 +1,6 @@
 // Made by make/erase of crates/zones/src/zone/owned.rt. Do not edit.
 //! Zones that keep their transitions.
+use crate::proved::zones::slot::Slot;
 use crate::proved::zones::{Tail, TimeType, Transition, Zone};
 use crate::proved::memory::{AllocError, Global};
 /// A time zone that keeps its transitions itself. A contract sees the parts that it sees of a
@@ -8,10 +9,12 @@ pub struct OwnedZone {
     first: TimeType,
     rows: crate::proved::memory::Vec<Transition>,
     tail: Option<Tail>,
+    slots: crate::proved::memory::Vec<Slot>,
 }
 
 impl OwnedZone {
-    /// Copies the transitions of a zone. Fails if there is no memory for them.
+    /// Copies the transitions of a zone, and has its offsets from 1970 to 2037 at hand. Fails if
+    /// there is no memory for them.
     ///
     /// # Contract
     ///
@@ -24,10 +27,12 @@ impl OwnedZone {
     pub fn new(alloc: Global, zone: &Zone<'_>) -> Result<OwnedZone, AllocError> {
         let mut rows = crate::proved::memory::Vec::with_capacity(alloc, zone.rows.len())?;
         rows.extend_from_slice(zone.rows)?;
+        let slots = zone.make_slots(alloc)?;
         Ok(OwnedZone {
             first: zone.first,
             rows,
             tail: zone.tail,
+            slots,
         })
     }
 
@@ -46,6 +51,7 @@ impl OwnedZone {
             first: self.first,
             rows: &self.rows,
             tail: self.tail,
+            slots: &self.slots,
         }
     }
 }
