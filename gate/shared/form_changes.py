@@ -16,11 +16,11 @@ OFFSET_LACKS, YEAR_LACKS = "no offset: add one, as --offset +05:30", "no year: a
 
 class Changing:
     """What finds the stamps of the lines of a log, one after another, and what is told of the changes. `lacking` has what a form lacks,
-    or None."""
+    or None, and `make_reader` what finds the stamps of a form at a place."""
 
-    def __init__(self, data, offset=330, year=2024, lacking=lambda _: None):
+    def __init__(self, data, offset=330, year=2024, lacking=lambda _: None, make_reader=Reader):
         self.chosen = chosen_in(data) or ("rfc3339", "front")
-        self.offset, self.year, self.lacking, self.last = offset, year, lacking, None
+        self.offset, self.year, self.lacking, self.make_reader, self.last = offset, year, lacking, make_reader, None
         self.row, self.wait, self.front, self.number, self.told = 0, ROW, None, 0, []
         self.find = self.finder()
 
@@ -28,7 +28,7 @@ class Changing:
         """What finds the stamps of the form and the place of now. The last stamp has the year of the next one."""
         if self.chosen == ("rfc3339", "front"):
             return stamp_of
-        reader = Reader(*self.chosen, self.offset, self.year)
+        reader = self.make_reader(*self.chosen, self.offset, self.year)
         if self.last is not None:
             reader.keep(self.last)
         return reader.stamp_of

@@ -12,10 +12,11 @@ use Rattle.stamps.specs.Changes.{anew_with, at_most, choice_after, number_now, r
 use Rattle.stamps.specs.Changes.{tried, tried_with, unless_over, with_change, with_longer_wait, with_one_more}
 use Rattle.stamps.specs.Choosing.{chosen_by_two, chosen_with, if_both_read, reads}
 use Rattle.stamps.specs.Decisions.{decision_by, decision_of, first_state, is_first, line_kind, one_more, reading, stamp_after, state_after, state_by}
-use Rattle.stamps.specs.Laws.{IsReason, kinds_in, line_stamps, rows_are_short}
+use Rattle.stamps.specs.Laws.{IsReadAsAtFirst, IsReason, kinds_in, line_stamps, rows_are_short}
 use Rattle.stamps.specs.Readers.{line_stamp}
 use Rattle.stamps.specs.Runs.{Run, input_run, known_after, known_at_end, last_of, last_run, line_feed, line_run, output_of, run, then_on}
 use Rattle.stamps.specs.Tallies.{kinds_of}
+use Rattle.stamps.specs.Zoned.{with_zone}
 use Rattle.stamps.specs.declared.changes.Anew.{Anew}
 use Rattle.stamps.specs.declared.changes.Change.{Change}
 use Rattle.stamps.specs.declared.changes.Choice.{Choice}
@@ -242,7 +243,7 @@ changed_by : (anew : Anew) (choice : Choice) (number to n : ℕ) (b : Bool) (r :
     → (if b then with_longer_wait choice else anew_with anew choice number n r).number ≡ Some to → choice.number ≢ Some to → n ≡ to
 changed_by anew choice number to n true r e stays_on = absurd (stays_on e)
 changed_by anew choice number to n false (Ok reader) e stays_on =
-    let same : Some n ≡ Some to = sym (number-noted (record choice { own = Some reader; number = Some n; row = 0; wait = row_length })
+    let same : Some n ≡ Some to = sym (number-noted (record choice { own = Some (with_zone anew.zone reader); number = Some n; row = 0; wait = row_length })
     (record { line = number; from = number_now anew choice; to = n; lacks = None })) ∙ e in
     cc
 changed_by anew choice number to n false (Err misuse) e stays_on =
@@ -292,3 +293,60 @@ reason anew choice number to Long line e stays_on =
     let all = row_by anew next number to (take 1024 line) (nat_le next.wait next.row) e stays_on in
     let long = all.0 in
     record { bare = refl; row = grind (arith, nat_tests); before = all.1.0; here = all.1.1 }
+
+-- ---- and it reads as it would from the first line on
+
+own_by : (b : Bool) (choice one other : Choice) → one.own ≡ choice.own → other.own ≡ choice.own → (if b then one else other).own ≡ choice.own
+own_by true choice one other e f = e
+own_by false choice one other e f = f
+
+own-noted : (choice : Choice) (change : Change) → (with_change choice change).own ≡ choice.own
+own-noted choice change =
+    own_by (nat_lt (length choice.changes) 8) choice (record choice { changes = choice.changes ++ change ∷ [] })
+    (record choice { more = at_most (choice.more + 1) }) refl refl
+
+changed_as : (anew : Anew) (choice : Choice) (number to n : ℕ) (b : Bool) (r : Result Reader ReadingMisuse)
+    → chosen_with n anew.offset anew.year ≡ r
+    → (if b then with_longer_wait choice else anew_with anew choice number n r).number ≡ Some to → choice.number ≢ Some to
+    → IsReadAsAtFirst anew to (if b then with_longer_wait choice else anew_with anew choice number n r).own
+changed_as anew choice number to n true r is e stays_on = absurd (stays_on e)
+changed_as anew choice number to n false (Ok reader) is e stays_on =
+    let same : n ≡ to = changed_by anew choice number to n false (Ok reader) e stays_on in
+    let changed = record choice { own = Some (with_zone anew.zone reader); number = Some n; row = 0; wait = row_length } in (
+      reader,
+      subst (λ (z : ℕ). chosen_with z anew.offset anew.year ≡ Ok reader) same is,
+      own-noted changed (record { line = number; from = number_now anew choice; to = n; lacks = None }),
+    )
+changed_as anew choice number to n false (Err misuse) is e stays_on =
+    absurd (stays_on (sym (number-noted (with_longer_wait choice) (record { line = number; from = number_now anew choice; to = n; lacks = Some misuse })) ∙ e))
+
+tried_as : (anew : Anew) (choice : Choice) (number to : ℕ) (front : List ℕ) (o : Option ℕ)
+    → (tried_with anew choice number front o).number ≡ Some to → choice.number ≢ Some to
+    → IsReadAsAtFirst anew to (tried_with anew choice number front o).own
+tried_as anew choice number to front None e stays_on = absurd (stays_on (sym (number-over (record choice { front = front })) ∙ e))
+tried_as anew choice number to front (Some n) e stays_on =
+    changed_as anew choice number to n (n == number_now anew choice) (chosen_with n anew.offset anew.year) refl e stays_on
+
+found_as : (anew : Anew) (choice : Choice) (number to : ℕ) (front : List ℕ) (b : Bool)
+    → (if b then tried_with anew choice number front (chosen_by_two choice.front front) else unless_over choice).number ≡ Some to
+    → choice.number ≢ Some to
+    → IsReadAsAtFirst anew to (if b then tried_with anew choice number front (chosen_by_two choice.front front) else unless_over choice).own
+found_as anew choice number to front true e stays_on = tried_as anew choice number to front (chosen_by_two choice.front front) e stays_on
+found_as anew choice number to front false e stays_on = absurd (stays_on (sym (number-over choice) ∙ e))
+
+row_as : (anew : Anew) (choice : Choice) (number to : ℕ) (front : List ℕ) (b : Bool)
+    → (if b then tried anew choice number front else choice).number ≡ Some to → choice.number ≢ Some to
+    → IsReadAsAtFirst anew to (if b then tried anew choice number front else choice).own
+row_as anew choice number to front true e stays_on = found_as anew choice number to front (is_read_by_any front) e stays_on
+row_as anew choice number to front false e stays_on = absurd (stays_on e)
+
+pub as_at_first : (anew : Anew) (choice : Choice) (number to : ℕ) (kind : LineKind) (line : List ℕ)
+    → (choice_after (Some anew) choice number kind line).number ≡ Some to → choice.number ≢ Some to
+    → IsReadAsAtFirst anew to (choice_after (Some anew) choice number kind line).own
+as_at_first anew choice number to Stamped line e stays_on = absurd (stays_on e)
+as_at_first anew choice number to Continued line e stays_on = absurd (stays_on e)
+as_at_first anew choice number to Empty line e stays_on = absurd (stays_on e)
+as_at_first anew choice number to Bare line e stays_on =
+    let next = with_one_more choice in row_as anew next number to (take 1024 line) (nat_le next.wait next.row) e stays_on
+as_at_first anew choice number to Long line e stays_on =
+    let next = with_one_more choice in row_as anew next number to (take 1024 line) (nat_le next.wait next.row) e stays_on

@@ -22,6 +22,7 @@ pub mod NearestLemmas
 pub mod PartLemmas
 pub mod ReadLemmas
 mod ReadingLemmas
+pub mod RemedyLemmas
 pub mod RunLemmas
 pub mod StampLawLemmas
 pub mod StampedLemmas

@@ -22,6 +22,7 @@ use Rattle.rfc3339.specs.declared.refusal.TextRefusal.TheVariants as text
 use Rattle.stamps.specs.Decisions.{as_it_is, with_text, rewritten, is_earlier, stop_if, check_line, gap_after, gap_line, going_on, cause_of, is_first, as_note}
 use Rattle.stamps.specs.Changes.{choice_after, reader_by, tried, with_one_more}
 use Rattle.stamps.specs.Decisions.{decision_by, decision_of, line_kind, one_more, stamp_after, state_by, state_after}
+use Rattle.stamps.specs.Zoned.{zone_of}
 use Rattle.stamps.specs.ZonedLemmas.{assumed_stamp-longer, assumed_stamp-within}
 use Rattle.stamps.specs.LineStamps.{byte_order_mark, ends, front_stamp, has_mark, longest_head, mark_length, stamp, stamp_of}
 use Rattle.line_devices.specs.StampTallyLemmas.{kind_of-longer}
@@ -201,7 +202,7 @@ behind-within Plain last before line low =
     plain-within before line (stamp_of (drop before line)) low (stamp_within (drop before line))
 behind-within (Formed by) last before line low =
     formed-within before by.place line (form_stamp by last (drop before line)) low
-    (assumed_stamp-within by.zone by (assumed_after by.assumed last) (drop before line))
+    (assumed_stamp-within (zone_of by) by (assumed_after by.assumed last) (drop before line))
 
 pub line_stamp-within : (reader : Reader) (last : Option ℤ) (is_first : Bool) (line : List ℕ)
     → LineStampWithin (line_stamp reader last is_first line) (length line)
@@ -318,7 +319,7 @@ behind-longer : (reader : Reader) (last : Option ℤ) (before : ℕ) (text part 
 behind-longer Plain last before text part long = ap (plain_at before) (stamp_of-longer text part long)
 behind-longer (Formed by) last before text part long =
     formed_at-longer before by.place text part (form_stamp by last (text ++ part)) long
-    ∙ ap (formed_at before by.place text) (assumed_stamp-longer by.zone by (assumed_after by.assumed last) text part long)
+    ∙ ap (formed_at before by.place text) (assumed_stamp-longer (zone_of by) by (assumed_after by.assumed last) text part long)
 
 -- the stamp is the same
 line_stamp-longer : (reader : Reader) (last : Option ℤ) (is_first : Bool) (line part : List ℕ) → longest_head ≤ length line

@@ -15,7 +15,7 @@ use Rattle.stamps.specs.Laws.{fed, last_written, line_written, lines_written, te
 use Rattle.stamps.specs.LineStamps.{byte_order_mark, has_mark, mark_length, stamp_of}
 use Rattle.stamps.specs.Runs.{Run, input_run, known_after, last_of, last_run, line_feed, line_run, output_of, then_on}
 use Rattle.stamps.specs.StampTexts.{stamp_text}
-use Rattle.stamps.specs.Zoned.{assumed_stamp}
+use Rattle.stamps.specs.Zoned.{assumed_stamp, zone_of}
 use Rattle.log_forms.specs.Years.{assumed_after, assumed_then}
 use Rattle.log_forms.specs.declared.instants.Assumed.{Assumed}
 use Rattle.log_forms.specs.declared.places.Place.{Place}
@@ -88,7 +88,7 @@ pub same_stamp : (r : Reader) (last : Option ℤ) (is_first : Bool) (line : List
 same_stamp Plain last is_first line one = refl
 same_stamp (Formed by) last is_first line one =
     let before = mark_length (has_mark is_first line) in
-    ap (λ (assumed : Assumed). formed_at before by.place (drop before line) (assumed_stamp by.zone by assumed (drop before line)))
+    ap (λ (assumed : Assumed). formed_at before by.place (drop before line) (assumed_stamp (zone_of by) by assumed (drop before line)))
     (assumed_same by.assumed last one)
 
 -- ---- all lines

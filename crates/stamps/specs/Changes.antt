@@ -5,6 +5,7 @@ use Rattle.line_devices.specs.declared.stamp_tallies.LineKind.{LineKind}
 use Rattle.line_devices.specs.declared.stamp_tallies.LineKind.TheVariants.{Stamped, Bare, Continued, Empty, Long}
 use Rattle.log_forms.specs.Choices.{is_read_by_any}
 use Rattle.stamps.specs.Choosing.{chosen_by_two, chosen_with}
+use Rattle.stamps.specs.Zoned.{with_zone}
 use Rattle.stamps.specs.declared.changes.Anew.{Anew}
 use Rattle.stamps.specs.declared.changes.Change.{Change}
 use Rattle.stamps.specs.declared.changes.Choice.{Choice}
@@ -47,10 +48,10 @@ with_change choice change =
 abbrev pub with_longer_wait : Choice → Choice
 with_longer_wait choice = record choice { wait = at_most (choice.wait * 2) }
 
--- the choice with a reader of a number, after a line of a number
+-- the choice with a reader of a number, by the zone if one is given, after a line of a number
 abbrev pub anew_with : Anew → Choice → ℕ → ℕ → Result Reader ReadingMisuse → Choice
 anew_with anew choice number to (Ok reader) =
-    with_change (record choice { own = Some reader; number = Some to; row = 0; wait = row_length })
+    with_change (record choice { own = Some (with_zone anew.zone reader); number = Some to; row = 0; wait = row_length })
     (record { line = number; from = number_now anew choice; to = to; lacks = None })
 anew_with anew choice number to (Err misuse) =
     with_change (with_longer_wait choice) (record { line = number; from = number_now anew choice; to = to; lacks = Some misuse })

@@ -26,7 +26,7 @@ use Rattle.line_merges.specs.Instants.{LogReading}
 use Rattle.line_merges.specs.Lines.{log_lines}
 use Rattle.stamps.specs.Buckets.{counting}
 use Rattle.stamps.specs.Changes.{choice_after, first_choice, with_one_more}
-use Rattle.stamps.specs.Choosing.{reads}
+use Rattle.stamps.specs.Choosing.{chosen_with, reads}
 use Rattle.stamps.specs.Tallies.{kinds_of}
 use Rattle.stamps.specs.declared.changes.Anew.{Anew}
 use Rattle.stamps.specs.declared.changes.Choice.{Choice}
@@ -45,6 +45,7 @@ use Rattle.stamps.specs.Runs.{input_run, output_of}
 use Rattle.stamps.specs.Runs as runs
 use Rattle.stamps.specs.StampTexts.{in_quotes, is_date}
 use Rattle.stamps.specs.Styles.{text_in}
+use Rattle.stamps.specs.Zoned.{with_zone}
 use Rattle.stamps.specs.declared.decide.Stamp.{Stamp}
 use Rattle.stamps.specs.declared.fronted.Lead.{Lead}
 use Rattle.stamps.specs.declared.notes.Note.TheVariants.{Gap}
@@ -54,6 +55,8 @@ use Rattle.stamps.specs.declared.readers.LineStamp.{LineStamp}
 use Rattle.stamps.specs.declared.readers.Reader.{Reader}
 use Rattle.stamps.specs.declared.readers.Reader.TheVariants.{Plain}
 use Rattle.stamps.specs.declared.readers.ValueKind.TheVariants.{Quoted}
+use Rattle.stamps.specs.declared.reading.ReadingMisuse.{ReadingMisuse}
+use Rattle.stamps.specs.declared.reading.ReadingMisuse.TheVariants.{LacksBoth, LacksOffset}
 use Rattle.stamps.specs.declared.task.Style.{Style}
 use Rattle.stamps.specs.declared.task.Style.TheVariants.{Unix, Utc}
 use Rattle.stamps.specs.declared.task.Action.{Action}
@@ -358,8 +361,19 @@ pub record IsReason (choice : Choice) (kind : LineKind) (line : List ℕ) (to : 
   pub before : reads to (with_one_more choice).front ≡ true
   pub here : reads to (take 1024 line) ≡ true
 
+-- the lines behind a change are read as those of a log whose first lines choose that form: by the same offset, year and zone
+abbrev pub IsReadAsAtFirst : Anew → ℕ → Option Reader → Type 0
+IsReadAsAtFirst anew to own = (reader : Reader) × (chosen_with to anew.offset anew.year ≡ Ok reader) × (own ≡ Some (with_zone anew.zone reader))
+
+-- whether `--offset` is in the remedy of a misuse
+abbrev pub asks_for_offset : ReadingMisuse → Bool
+asks_for_offset LacksOffset = true
+asks_for_offset LacksBoth = true
+asks_for_offset _ = false
+
 -- an input is read in one form if fewer than 15 of its lines in each row have no stamp: by each word, so that a count has the same rows,
--- and a merge the same lines. Where another form reads on, there is a reason
+-- and a merge the same lines. Where another form reads on, there is a reason, and it reads as it would from the first line on. Where it
+-- cannot, `--offset` is no remedy if an offset or a zone is given
 pub record FormsChangeForAReason : Type 0 where
   pub stays : (task : Task) (input : List ℕ) → rows_are_short 0 (kinds_in task.reader input) ≡ true
       → input_run task input ≡ input_run (reading task.reader task.action) input
@@ -371,3 +385,8 @@ pub record FormsChangeForAReason : Type 0 where
       → log_lines (reading_by anew reader other) log ≡ log_lines (reading_in_one reader other) log
   pub reason : (anew : Anew) (choice : Choice) (number to : ℕ) (kind : LineKind) (line : List ℕ)
       → (choice_after (Some anew) choice number kind line).number ≡ Some to → choice.number ≢ Some to → IsReason choice kind line to
+  pub as_at_first : (anew : Anew) (choice : Choice) (number to : ℕ) (kind : LineKind) (line : List ℕ)
+      → (choice_after (Some anew) choice number kind line).number ≡ Some to → choice.number ≢ Some to
+      → IsReadAsAtFirst anew to (choice_after (Some anew) choice number kind line).own
+  pub remedy : (number : ℕ) (offset : ℤ) (year : Option ℤ) (misuse : ReadingMisuse) → chosen_with number (Some offset) year ≡ Err misuse
+      → asks_for_offset misuse ≡ false

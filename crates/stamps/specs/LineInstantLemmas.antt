@@ -14,6 +14,7 @@ use Rattle.rfc3339.specs.Reading.{front_at}
 use Rattle.stamps.specs.LineInstants.{line_instant, stamp_instant}
 use Rattle.stamps.specs.LineStamps.{byte_order_mark, front_stamp, has_mark, mark_length, stamp_of}
 use Rattle.stamps.specs.Readers.{form_stamp, formed_at, in_line, is_json, json_kind, line_stamp, plain_at, stamp_behind, value_kind}
+use Rattle.stamps.specs.Zoned.{zone_of}
 use Rattle.stamps.specs.ZonedLemmas.{assumed_stamp-longer}
 use Rattle.stamps.specs.declared.readers.Reader.{Reader}
 use Rattle.stamps.specs.declared.readers.Reader.TheVariants.{Plain, Formed}
@@ -50,7 +51,7 @@ behind-longer : (reader : Reader) (last : Option ℤ) (before : ℕ) (text part 
 behind-longer Plain last before text part long = ap (plain_at before) (stamp-longer text part long)
 behind-longer (Formed by) last before text part long =
     formed_at-longer before by.place text part (form_stamp by last (text ++ part)) long
-    ∙ ap (formed_at before by.place text) (assumed_stamp-longer by.zone by (assumed_after by.assumed last) text part long)
+    ∙ ap (formed_at before by.place text) (assumed_stamp-longer (zone_of by) by (assumed_after by.assumed last) text part long)
 
 line_stamp-longer : (reader : Reader) (last : Option ℤ) (is_first : Bool) (line part : List ℕ) → 65536 ≤ length line
     → line_stamp reader last is_first (line ++ part) ≡ line_stamp reader last is_first line

@@ -10,7 +10,7 @@ use Rattle.log_forms.specs.declared.stamps.Stamp as forms
 use Rattle.log_forms.specs.declared.stamps.StampRefusal.{StampRefusal}
 use Rattle.log_forms.specs.declared.stamps.StampRefusal.TheVariants as form
 use Rattle.stamps.specs.LineStamps.{has_mark, mark_length, stamp_of}
-use Rattle.stamps.specs.Zoned.{assumed_stamp}
+use Rattle.stamps.specs.Zoned.{assumed_stamp, zone_of}
 use Rattle.stamps.specs.declared.decide.Stamp.{Stamp}
 use Rattle.stamps.specs.declared.readers.FormReader.{FormReader}
 use Rattle.stamps.specs.declared.readers.LineRefusal.{LineRefusal}
@@ -75,7 +75,7 @@ formed_at before place text (Err (form.Part refusal)) = Err (Part refusal)
 
 -- the stamp of a text in a form, at its place: what is assumed follows from the last instant
 abbrev pub form_stamp : FormReader → Option ℤ → List ℕ → Result forms.Stamp StampRefusal
-form_stamp by last text = assumed_stamp by.zone by (assumed_after by.assumed last) text
+form_stamp by last text = assumed_stamp (zone_of by) by (assumed_after by.assumed last) text
 
 -- the stamp of a line, in the text after this many bytes
 abbrev pub stamp_behind : Reader → Option ℤ → ℕ → List ℕ → Result LineStamp LineRefusal

@@ -203,6 +203,12 @@ abbrev pub needs_lines_before : Reader → Bool
 needs_lines_before Plain = false
 needs_lines_before (Formed by) = is_some by.assumed.year
 
+-- what a form lacks where the last change of an input is to give its year, and the input has none: the remedy takes the place of the word
+abbrev pub without_time : ReadingMisuse → ReadingMisuse
+without_time misuse.LacksYear = misuse.YearTime
+without_time misuse.LacksBoth = misuse.LacksOffset
+without_time misuse = misuse
+
 -- the message of a misuse: the fault and the remedy
 abbrev pub reading_text : ReadingMisuse → List ℕ
 reading_text misuse.UnknownForm = codes "the form '' is unknown: write a name of --list-forms, or a description, as [day]/[month]/[year]"
@@ -213,7 +219,7 @@ reading_text (misuse.Offset Syntax) = codes "the offset '' has another form: wri
 reading_text (misuse.Offset (OutOfRange component)) = codes "the offset '' is out of range: write one from -23:59 to +23:59"
 reading_text misuse.Year = codes "the year '' has another form: write its four digits, as 2024, FILE=2024 or mtime"
 reading_text misuse.YearFile = codes "--year names the file '', which the command does not read: write the name as there"
-reading_text misuse.YearTime = codes "the input has no time of a last change: add the first year, as --year 2024"
+reading_text misuse.YearTime = codes "the input has no time of a last change: write the first year in place of mtime, as --year 2024"
 reading_text misuse.LacksOffset = codes "the form has no offset: add one, as --offset +05:30"
 reading_text misuse.LacksYear = codes "the form has no year: add the first one, as --year 2024"
 reading_text misuse.LacksBoth = codes "the form has no offset and no year: add them, as --offset +05:30 --year 2024"
@@ -228,4 +234,3 @@ reading_text misuse.ToTwice = codes "--to is given twice: leave one out"
 reading_text misuse.ZoneTwice = codes "--zone is given twice: leave one out"
 reading_text misuse.UntilTwice = codes "--until is given twice: leave one out"
 reading_text misuse.ZoneAndOffset = codes "--zone and --offset are given: leave one out"
-reading_text misuse.NoMemory = codes "no memory is left"

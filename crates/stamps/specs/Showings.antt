@@ -8,7 +8,7 @@ use Rattle.log_forms.specs.declared.stamps.Stamp.{Stamp}
 use Rattle.log_forms.specs.declared.stamps.StampRefusal.{StampRefusal}
 use Rattle.log_zones.specs.Showings.{IsShowing}
 use Rattle.log_zones.specs.declared.showings.Showing.{Showing}
-use Rattle.stamps.specs.Zoned.{at_offset, stamp_by}
+use Rattle.stamps.specs.Zoned.{at_offset, stamp_by, zone_of}
 use Rattle.stamps.specs.declared.readers.FormReader.{FormReader}
 use Rattle.stamps.specs.declared.readers.Reader.{Reader}
 use Rattle.stamps.specs.declared.readers.Reader.TheVariants.{Plain, Formed}
@@ -43,4 +43,4 @@ IsFormShowing (Some z) by last text found = IsWallShowing z (zone_wall by (assum
 -- and of a line with this many bytes before its text
 abbrev pub IsLineShowing : Reader → Option ℤ → ℕ → List ℕ → Option Showing → Type 0
 IsLineShowing Plain last before line found = found ≡ None
-IsLineShowing (Formed by) last before line found = IsFormShowing by.zone by last (drop before line) found
+IsLineShowing (Formed by) last before line found = IsFormShowing (zone_of by) by last (drop before line) found

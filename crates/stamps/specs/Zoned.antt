@@ -1,5 +1,6 @@
 -- The stamps of texts whose wall clocks are those of a time zone.
-use Rattle.std.specs.Prelude.{ℕ, if◌then◌else◌, List, ℤ, pos, Option, Some, None, Result, Ok, Err}
+use Rattle.std.specs.Prelude.{ℕ, if◌then◌else◌, List, ℤ, pos, Option, Some, None, option_map, Result, Ok, Err}
+use Rattle.std.specs.Borrow.{Bor}
 use Rattle.format_descriptions.specs.declared.value_refusal.Field.TheVariants.{Hour, Year}
 use Rattle.format_descriptions.specs.declared.value_refusal.ValueRefusal.TheVariants.{Wrong}
 use Rattle.log_forms.specs.Lacking.{lacks_offset}
@@ -12,7 +13,18 @@ use Rattle.log_zones.specs.Instants.{zone_instant}
 use Rattle.log_zones.specs.declared.instants.NoInstant.{NoInstant}
 use Rattle.log_zones.specs.declared.instants.NoInstant.TheVariants.{Skipped, OutOfRange}
 use Rattle.stamps.specs.declared.readers.FormReader.{FormReader}
+use Rattle.stamps.specs.declared.readers.Reader.{Reader}
+use Rattle.stamps.specs.declared.readers.Reader.TheVariants.{Plain, Formed}
 use Rattle.zones.specs.Zones.{ZoneParts}
+
+-- the zone of a reader, if it has one
+abbrev pub zone_of : FormReader → Option ZoneParts
+zone_of by = option_map (λ zone. zone.now) by.zone
+
+-- the reader with a zone, or with none: that of RFC 3339 at the front needs none
+abbrev pub with_zone : Option (Bor ZoneParts) → Reader → Reader
+with_zone given Plain = Plain
+with_zone given (Formed by) = Formed (record by { zone = given })
 
 -- the stamp of a text in a form, at its place, by what is assumed
 abbrev pub stamp_by : FormReader → Assumed → List ℕ → Result Stamp StampRefusal

@@ -5,10 +5,12 @@ ghost use Rattle.stamps.specs.Changes.{after_choice, choice_after, first_choice,
 use crate::choosing::{chosen_by_two, chosen_with};
 use crate::readers::Reader;
 use crate::reading::ReadingMisuse;
+use crate::zoned::with_zone;
 use calendar_values::UtcOffset;
 use line_devices::stamp_tallies::LineKind;
 use line_devices::table::Table;
 use log_forms::is_read_by_any;
+use zones::OwnedZone;
 
 /// The lines without a stamp, one after another, after which the next ones choose a form anew.
 pub const ROW: u64 = 15;
@@ -20,14 +22,31 @@ pub const MOST_FRONT: usize = 1_024;
 pub const MOST_CHANGES: usize = 8;
 
 /// How a form is chosen anew.
-#[derive(Clone, Copy, Debug)]
+#[derive(Clone, Copy)]
 pub struct Anew {
     /// The number of the first reader.
     pub number: usize,
-    /// The offset of stamps that have none, if it is given.
+    /// The offset of stamps that have none, if it is given: that of UTC where a zone is.
     pub offset: Option<UtcOffset>,
     /// The year of the first of those that have none, if it is given.
     pub year: Option<i32>,
+    /// The time zone of stamps without an offset, if it is given.
+    pub zone: Option<&'static OwnedZone>,
+}
+
+/// A copy of how a form is chosen anew, if it is.
+pub fn copy_of(anew: &Option<Anew>) -> Option<Anew>
+    ensures { result ≡ anew.now }
+{
+    match anew {
+        Some(anew) => Some(Anew {
+            number: anew.number,
+            offset: anew.offset,
+            year: anew.year,
+            zone: anew.zone,
+        }),
+        None => None,
+    }
 }
 
 /// A form that lines choose anew.
@@ -174,7 +193,7 @@ impl Choice {
         }
         let lacks = match chosen_with(reader, anew.offset, anew.year) {
             Ok(own) => {
-                self.own = Some(own);
+                self.own = Some(with_zone(own, anew.zone));
                 self.number = Some(reader);
                 self.row = 0;
                 self.wait = ROW;

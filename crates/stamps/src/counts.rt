@@ -302,13 +302,10 @@ fn run_input(
         Err(status) => return status,
     };
     let other = own_buckets(buckets, chosen);
-    let buckets = match &other {
-        Some(other) => other,
-        None => buckets,
-    };
+    let buckets = buckets_or(&other, buckets);
     let shows_progress = input.inner().shows_progress();
     let mut writer = Device::new(rt.stdout());
-    if watch_input(rt.alloc(), &mut input, &buckets.reader, buckets.anew).is_err() {
+    if watch_input(rt.alloc(), &mut input, &buckets.reader, &buckets.anew).is_err() {
         say(rt, said, "no memory is left");
         return FAILED;
     }
@@ -320,7 +317,7 @@ fn run_input(
     match &ended {
         Ok(tally) => {
             if !given.is_quiet {
-                say_changes(rt, said, &tally.memory);
+                say_changes(rt, said, given, &tally.memory);
             }
             if let Some(line) = tally.back {
                 say_line(rt, said, line, Cause::Earlier);
@@ -349,6 +346,14 @@ fn own_buckets(buckets: &ClockBuckets, chosen: Chosen) -> Option<ClockBuckets> {
         reader,
         anew: chosen.anew,
     })
+}
+
+// The buckets of an input, or those of the words if it has none of its own.
+fn buckets_or<'a>(own: &'a Option<ClockBuckets>, words: &'a ClockBuckets) -> &'a ClockBuckets {
+    match own {
+        Some(own) => own,
+        None => words,
+    }
 }
 
 // Says what is at fault with a line.

@@ -17,11 +17,12 @@ use crate::leading::{Leading, Look};
 use crate::nearest::say_bare;
 use crate::readers::{Reader, mark_length};
 use crate::reading::{
-    ReadingMisuse, needs_lines_before, offset_asked, reader_of, reading_line, year_asked,
+    ReadingMisuse, needs_lines_before, offset_asked, reader_of, reading_line, without_time,
+    year_asked,
 };
 use crate::sources::{FAILED, say, say_packed, time_of_change};
 use crate::years::year_for;
-use crate::zone_words::in_zone;
+use crate::zoned::with_zone;
 use log_forms::{Place, form_name, reader_form, reader_key, reader_place};
 use std::alloc::AllocError;
 use std::io::Read;
@@ -39,7 +40,7 @@ pub struct Given<'a> {
     /// The value of `--offset`, or UTC where a zone is given.
     pub offset: Option<&'a [u8]>,
     /// The zone of `--zone`.
-    pub zone: Option<&'a OwnedZone>,
+    pub zone: Option<&'static OwnedZone>,
     /// The name of the zone.
     pub zone_name: Option<&'a str>,
     /// The values of `--year`.
@@ -115,7 +116,7 @@ fn anew_from(
     if !given.chooses {
         return None;
     }
-    let name = if said.is_empty() { "-" } else { said };
+    let name = input_name(said);
     let year = match year_for(given.years, name.as_bytes()) {
         Some(text) if is(text, "mtime") => match time_of_change(rt, name) {
             Some(changed) => Some(changed.year()),
@@ -128,12 +129,12 @@ fn anew_from(
     };
     Some(Anew {
         number: choice.unwrap_or(0),
-        // A form that lines choose anew has no zone, and so no offset that is assumed.
         offset: match offset_asked(given.offset) {
-            Ok(offset) if given.zone.is_none() => offset,
-            _ => None,
+            Ok(offset) => offset,
+            Err(_) => None,
         },
         year,
+        zone: given.zone,
     })
 }
 
@@ -151,18 +152,15 @@ fn reader_in_year(
     said: &str,
     head: &[u8],
 ) -> Result<Reader, ReadingMisuse> {
-    let name = if said.is_empty() { "-" } else { said };
+    let name = input_name(said);
     let year = year_for(given.years, name.as_bytes());
     if !matches!(year, Some(text) if is(text, "mtime")) {
-        return reader_by(rt, given, choice, year);
+        return reader_by(given, choice, year);
     }
     let Some(changed) = time_of_change(rt, name) else {
-        return match reader_by(rt, given, choice, None) {
-            Err(ReadingMisuse::LacksYear) => Err(ReadingMisuse::YearTime),
-            other => other,
-        };
+        return reader_by(given, choice, None).map_err(without_time);
     };
-    let mut reader = reader_by(rt, given, choice, Some(b"2000"))?;
+    let mut reader = reader_by(given, choice, Some(b"2000"))?;
     if needs_lines_before(&reader) {
         let year = first_year(&mut reader, head, changed);
         set_year(&mut reader, year);
@@ -174,20 +172,15 @@ fn reader_in_year(
 }
 
 /// The reader of an input, or that of the words if the input has none of its own.
-pub fn reader_or(
-    rt: &HostRuntime,
-    own: Option<Reader>,
-    given: Given<'_>,
-) -> Result<Reader, ReadingMisuse> {
+pub fn reader_or(own: Option<Reader>, given: Given<'_>) -> Result<Reader, ReadingMisuse> {
     match own {
         Some(own) => Ok(own),
-        None => reader_by(rt, given, None, None),
+        None => reader_by(given, None, None),
     }
 }
 
 // The reader of the form and the place with a number, or of the words, in a year.
 fn reader_by(
-    rt: &HostRuntime,
     given: Given<'_>,
     choice: Option<usize>,
     year: Option<&[u8]>,
@@ -196,10 +189,7 @@ fn reader_by(
         Some(number) => chosen_reader(number, given.offset, year)?,
         None => reader_of(given.form, given.place, given.offset, year)?,
     };
-    match in_zone(rt.alloc(), reader, given.zone) {
-        Ok(reader) => Ok(reader),
-        Err(_) => Err(ReadingMisuse::NoMemory),
-    }
+    Ok(with_zone(reader, given.zone))
 }
 
 // Says which year the last change of a file gives.
@@ -288,9 +278,9 @@ fn first_block(head: &[u8]) -> &[u8]
 }
 
 /// Says which forms an input changes to, and which it may have that lack an option.
-pub fn say_changes(rt: &HostRuntime, said: &str, choice: &Choice) {
+pub fn say_changes(rt: &HostRuntime, said: &str, given: Given<'_>, choice: &Choice) {
     for change in choice.changes.items() {
-        if let Ok(text) = change_text(rt, change) {
+        if let Ok(text) = change_text(rt, change, is_by_time(given, said)) {
             say(rt, said, text.as_str());
         }
     }
@@ -302,12 +292,27 @@ pub fn say_changes(rt: &HostRuntime, said: &str, choice: &Choice) {
     }
 }
 
-// The text of a change: the first line that is read by the new form, and the forms before and after it.
-fn change_text(rt: &HostRuntime, change: &Change) -> Result<String, AllocError> {
+// Whether the last change of an input is to give its year.
+fn is_by_time(given: Given<'_>, said: &str) -> bool {
+    matches!(year_for(given.years, input_name(said).as_bytes()), Some(year) if is(year, "mtime"))
+}
+
+// The name of an input in the words. Standard input has no name where no file is given.
+fn input_name(said: &str) -> &str {
+    if said.is_empty() { "-" } else { said }
+}
+
+// The text of a change: the first line that is read by the new form, and the forms before and after it. Where it lacks something, the
+// remedy goes with the words.
+fn change_text(rt: &HostRuntime, change: &Change, is_by_time: bool) -> Result<String, AllocError> {
     let (line, to) = (change.line, choice_text(rt, change.to)?);
     match change.lacks {
         Some(misuse) => {
-            let lack = reading_line(misuse);
+            let lack = reading_line(if is_by_time {
+                without_time(misuse)
+            } else {
+                misuse
+            });
             format!(in rt.alloc(); "line {line}: {to} fits: {lack}")
         }
         None => {

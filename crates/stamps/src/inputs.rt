@@ -130,11 +130,8 @@ fn run_input<T: Write>(
         Err(status) => return status,
     };
     let other = own_task(task, chosen);
-    let task = match &other {
-        Some(other) => other,
-        None => task,
-    };
-    if watch_input(rt.alloc(), &mut input, &task.reader, task.anew).is_err() {
+    let task = task_or(&other, task);
+    if watch_input(rt.alloc(), &mut input, &task.reader, &task.anew).is_err() {
         say(rt, said, "no memory is left");
         return FAILED;
     }
@@ -146,7 +143,7 @@ fn run_input<T: Write>(
         clear_progress(rt);
     }
     if !given.is_quiet {
-        say_changes(rt, said, &work.state.choice);
+        say_changes(rt, said, given, &work.state.choice);
     }
     let mut is_poor = false;
     match &ended {
@@ -176,5 +173,13 @@ pub fn own_task(task: &Task, chosen: Chosen) -> Option<Task> {
             anew: Some(anew),
         }),
         (None, None) => None,
+    }
+}
+
+/// The task on an input, or that of the words if it has none of its own.
+pub fn task_or<'a>(own: &'a Option<Task>, words: &'a Task) -> &'a Task {
+    match own {
+        Some(own) => own,
+        None => words,
     }
 }

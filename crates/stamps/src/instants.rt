@@ -5,7 +5,7 @@ ghost use Rattle.plain_times.specs.Sums.{wall_clock_if_any};
 ghost use Rattle.stamps.specs.LineInstants.{anew_of, instant_after, instant_by, line_instant, other_of, own_or, reader_or};
 ghost use Rattle.stamps.specs.declared.readers.Reader.TheVariants.{Plain};
 
-use crate::changes::{Anew, Choice};
+use crate::changes::{Anew, Choice, copy_of};
 use crate::decide::nanos_of;
 use crate::readers::{Reader, line_stamp, mark_length};
 use crate::reading::needs_lines_before;
@@ -104,7 +104,7 @@ fn anew_at(instants: &StampInstants, log: usize) -> Option<Anew>
     ensures { result ≡ anew_of (slice_get instants.now.chosen.items log) }
 {
     match instants.chosen.get(log) {
-        Some(log) => log.chosen.anew,
+        Some(log) => copy_of(&log.chosen.anew),
         None => None,
     }
 }

@@ -5,7 +5,7 @@ ghost use Rattle.stamps.specs.Runs.{input_run};
 
 use crate::files::is_compressed;
 use crate::first_lines::{Given, reader_chosen};
-use crate::inputs::own_task;
+use crate::inputs::{own_task, task_or};
 use crate::lines::Work;
 use crate::readers::Reader;
 use crate::sources::{FAILED, Input, say, say_compressed};
@@ -96,11 +96,7 @@ fn last_of_file(
     };
     let chosen = reader_chosen(rt, quietly, &task.reader, name, &mut input)?;
     let other = own_task(task, chosen);
-    let task = match &other {
-        Some(other) => other,
-        None => task,
-    };
-    match last_instant(task, &mut Device::new(input)) {
+    match last_instant(task_or(&other, task), &mut Device::new(input)) {
         Ok(last) => Ok(last),
         Err(_) => {
             say(rt, name, "read failed");

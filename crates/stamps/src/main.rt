@@ -61,7 +61,8 @@ use task::{Action, Style, Task};
 use usage::USAGE;
 use utc_times::UtcDateTime;
 use years::{is_year, name_in, names_same, year_in};
-use zone_words::{in_zone, zone_named};
+use zone_words::{for_good, zone_named};
+use zoned::with_zone;
 use zones::OwnedZone;
 
 // The version of the library, which the program has too: make/versions writes it.
@@ -356,7 +357,7 @@ fn value_at_fault(asked: &Asked, misuse: ReadingMisuse) -> &str {
 // word gives a form or a place.
 fn choice_of<'a>(
     asked: &'a Asked,
-    zone: Option<&'a OwnedZone>,
+    zone: Option<&'static OwnedZone>,
     years: &'a [&'a [u8]],
     words: &'a [String],
 ) -> Given<'a> {
@@ -440,13 +441,14 @@ fn obey(rt: &HostRuntime, given: &[String], files: &[String], asked: &Asked) -> 
                         },
                         None => None,
                     };
-                    let Ok(reader) = in_zone(rt.alloc(), reader, zone.as_ref()) else {
+                    let Ok(zone) = for_good(rt.alloc(), zone) else {
                         say(rt, "", "no memory is left");
                         return ExitCode::from(FAILED);
                     };
+                    let reader = with_zone(reader, zone.as_ref());
                     let choice = choice_of(asked, zone.as_ref(), years.as_slice(), given);
                     if let Request::Cut(cut) = request {
-                        return cut_files(rt, cut, reader, &zone, choice, asked, files);
+                        return cut_files(rt, cut, reader, zone, choice, asked, files);
                     }
                     run(rt, job_of(request, reader, to), choice, files)
                 }

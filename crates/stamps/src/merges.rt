@@ -71,11 +71,11 @@ pub fn run(
         };
         shows_progress |= input.inner().shows_progress();
         let first = own_or(&own.chosen.reader, &instants.reader);
-        if watch_input(rt.alloc(), &mut input, first, own.chosen.anew).is_err() {
+        if watch_input(rt.alloc(), &mut input, first, &own.chosen.anew).is_err() {
             say(rt, said, "no memory is left");
             return FAILED;
         }
-        let Ok(turning) = turning_of(rt, &to, &mut own, given) else {
+        let Ok(turning) = turning_of(&to, &mut own, given) else {
             return FAILED;
         };
         let input = Turned::new(input, turning, rt.alloc());
@@ -109,8 +109,8 @@ pub fn run(
     for (k, log) in logs.iter().enumerate() {
         let (name, place) = (name_of(names, k), &log.front.place);
         if !given.is_quiet {
-            say_changes(rt, name, log.reader.inner().choice());
-            say_changes(rt, name, &log.memory);
+            say_changes(rt, name, given, log.reader.inner().choice());
+            say_changes(rt, name, given, &log.memory);
         }
         if let Some(line) = place.back {
             is_found = true;
@@ -127,7 +127,6 @@ pub fn run(
 // How a log gets its stamps in a style, if one is given. Then the merge reads RFC 3339 in front, or the form of the style in
 // records of JSON, and the log is read as before.
 fn turning_of(
-    rt: &HostRuntime,
     to: &Option<Style>,
     own: &mut LogReader,
     given: Given<'_>,
@@ -138,7 +137,7 @@ fn turning_of(
         Some(style) => (*style, *style),
         None => return Ok(None),
     };
-    let reader = reader_or(rt, own.chosen.reader.take(), given)?;
+    let reader = reader_or(own.chosen.reader.take(), given)?;
     own.chosen.reader = Some(Reader::Plain);
     own.other = value_reader(&value_style, &reader);
     Ok(Some(Turning {

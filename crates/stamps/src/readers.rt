@@ -32,7 +32,7 @@ pub struct FormReader {
     /// The offset and the year where the form lacks them.
     pub assumed: Assumed,
     /// The time zone of stamps without an offset, in place of the assumed offset.
-    pub zone: Option<OwnedZone>,
+    pub zone: Option<&'static OwnedZone>,
 }
 
 /// A reader of stamps.

@@ -3,7 +3,7 @@ ghost use Rattle.std.specs.Prelude.{◌≡◌, ◌≤◌, drop, length, option_m
 ghost use Rattle.stamps.specs.Reading.{is_valued, needs_lines_before};
 ghost use Rattle.stamps.specs.Reading.{form_asked, is_front, kind_of, offset_asked, place_asked, place_text, plain_reader};
 ghost use Rattle.stamps.specs.Reading.{reader_of, reader_with, reading_text};
-ghost use Rattle.stamps.specs.Reading.{step_after, style_asked, twice_of, whole_reader, year_asked, year_of};
+ghost use Rattle.stamps.specs.Reading.{step_after, style_asked, twice_of, whole_reader, without_time, year_asked, year_of};
 
 use crate::arguments::is;
 use crate::files::is_dashes;
@@ -150,8 +150,6 @@ pub enum ReadingMisuse {
     UntilTwice,
     /// `--zone` and `--offset` are given.
     ZoneAndOffset,
-    /// No memory is left for a time zone.
-    NoMemory,
 }
 
 /// The misuse of an option that is given twice.
@@ -397,6 +395,19 @@ pub fn needs_lines_before(reader: &Reader) -> bool
     }
 }
 
+/// The misuse of a form whose year the last change of the input gives, where the input has none.
+/// Its remedy takes the place of a word that is given: the year that of `mtime`, once there is an
+/// offset.
+pub fn without_time(misuse: ReadingMisuse) -> ReadingMisuse
+    ensures { result ≡ without_time misuse }
+{
+    match misuse {
+        ReadingMisuse::LacksYear => ReadingMisuse::YearTime,
+        ReadingMisuse::LacksBoth => ReadingMisuse::LacksOffset,
+        misuse => misuse,
+    }
+}
+
 /// The text of a misuse: the error and its remedy.
 pub fn reading_line(misuse: ReadingMisuse) -> &'static str
     ensures { result.now ≡ reading_text misuse }
@@ -419,7 +430,7 @@ pub fn reading_line(misuse: ReadingMisuse) -> &'static str
         ReadingMisuse::YearFile =>
             "--year names the file '', which the command does not read: write the name as there",
         ReadingMisuse::YearTime =>
-            "the input has no time of a last change: add the first year, as --year 2024",
+            "the input has no time of a last change: write the first year in place of mtime, as --year 2024",
         ReadingMisuse::LacksOffset => "the form has no offset: add one, as --offset +05:30",
         ReadingMisuse::LacksYear => "the form has no year: add the first one, as --year 2024",
         ReadingMisuse::LacksBoth =>
@@ -438,6 +449,5 @@ pub fn reading_line(misuse: ReadingMisuse) -> &'static str
         ReadingMisuse::ZoneTwice => "--zone is given twice: leave one out",
         ReadingMisuse::UntilTwice => "--until is given twice: leave one out",
         ReadingMisuse::ZoneAndOffset => "--zone and --offset are given: leave one out",
-        ReadingMisuse::NoMemory => "no memory is left",
     }
 }

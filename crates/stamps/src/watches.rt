@@ -1,9 +1,10 @@
 //! Counts the lines of a log whose wall clocks a time zone shows twice or never.
 ghost use Rattle.std.specs.Prelude.{◌≡◌, IfOk};
 ghost use Rattle.stamps.specs.Decisions.{state_after};
-ghost use Rattle.stamps.specs.Watches.{IsCounted};
+ghost use Rattle.stamps.specs.Watches.{IsCounted, has_zone};
 
 use crate::ahead::Ahead;
+use crate::changes;
 use crate::changes::Anew;
 use crate::clock_tallies::{ClockTally, first_of_several, lines_text};
 use crate::decide::{LONGEST_HEAD, State, first_state, read_stamp};
@@ -18,7 +19,6 @@ use line_devices::places::place_of;
 use log_forms::{Form, named_form};
 use std::alloc::{AllocError, Global};
 use utc_times::UtcDateTime;
-use zones::OwnedZone;
 
 // The bytes of the date and the time of a text in UTC.
 const CLOCK_LENGTH: usize = 19;
@@ -35,32 +35,24 @@ pub struct Watch {
 }
 
 impl Watch {
-    /// A watch of a log of which nothing is read. None if its first reader has no zone. Fails only
-    /// if no memory is left.
-    pub fn new(
-        alloc: Global,
-        reader: &Reader,
-        anew: Option<Anew>,
-    ) -> Result<Option<Watch>, AllocError> {
-        let Reader::Formed(reader) = reader else {
-            return Ok(None);
-        };
-        if reader.zone.is_none() {
-            return Ok(None);
+    /// A watch of a log of which nothing is read. None if no zone is given.
+    pub fn new(alloc: Global, reader: &Reader, anew: &Option<Anew>) -> Option<Watch> {
+        if !has_zone(reader, anew) {
+            return None;
         }
         let task = Task {
             action: Action::Check(false),
-            reader: Reader::Formed(copy_of(alloc, reader)?),
-            anew,
+            reader: copy_of(reader),
+            anew: changes::copy_of(anew),
         };
         let state = first_state(&task);
-        Ok(Some(Watch {
+        Some(Watch {
             task,
             state,
             head: Vec::new(alloc),
             is_open: false,
             tally: ClockTally::new(),
-        }))
+        })
     }
 
     /// The lines that it counted.
@@ -136,18 +128,32 @@ fn count_line(task: &Task, state: &mut State, tally: ClockTally, line: &[u8]) ->
     tally.after(state.lines, showing)
 }
 
-// A copy of a reader.
-fn copy_of(alloc: Global, reader: &FormReader) -> Result<FormReader, AllocError>
-    ensures { IfOk result (λ copy. copy ≡ reader.now) }
+// Whether the first reader of a log has a zone, or those that its lines choose anew.
+fn has_zone(reader: &Reader, anew: &Option<Anew>) -> bool
+    ensures { result ≡ has_zone reader.now anew.now }
 {
+    match (reader, anew) {
+        (Reader::Formed(reader), _) if reader.zone.is_some() => true,
+        (_, Some(anew)) => anew.zone.is_some(),
+        (_, None) => false,
+    }
+}
+
+// A copy of a reader.
+fn copy_of(reader: &Reader) -> Reader
+    ensures { result ≡ reader.now }
+{
+    let Reader::Formed(reader) = reader else {
+        return Reader::Plain;
+    };
     let mut text = PlaceText::new(0);
     text.push_all(reader.text.items());
-    Ok(FormReader {
+    Reader::Formed(FormReader {
         form: copy_of_form(&reader.form),
         place: reader.place,
         text,
         assumed: reader.assumed,
-        zone: copy_of_zone(alloc, &reader.zone)?,
+        zone: reader.zone,
     })
 }
 
@@ -165,25 +171,15 @@ fn copy_of_form(form: &Form) -> Form
     copy
 }
 
-// A copy of a zone, if there is one.
-fn copy_of_zone(alloc: Global, zone: &Option<OwnedZone>) -> Result<Option<OwnedZone>, AllocError>
-    ensures { IfOk result (λ copy. copy ≡ zone.now) }
-{
-    match zone {
-        Some(zone) => Ok(Some(OwnedZone::new(alloc, &zone.zone())?)),
-        None => Ok(None),
-    }
-}
-
 /// Lets a watch read the lines of an input, of which the first bytes may be read ahead. Fails only
 /// if no memory is left.
 pub fn watch_input(
     alloc: Global,
     input: &mut Ahead<Input<'_>>,
     reader: &Reader,
-    anew: Option<Anew>,
+    anew: &Option<Anew>,
 ) -> Result<(), AllocError> {
-    let Some(mut watch) = Watch::new(alloc, reader, anew)? else {
+    let Some(mut watch) = Watch::new(alloc, reader, anew) else {
         return Ok(());
     };
     watch.take(input.head())?;

@@ -1,6 +1,5 @@
 //! The time zone that the words of the command line name.
 
-use crate::readers::Reader;
 use crate::sources::say;
 use std::alloc::{AllocError, Global};
 use std::env;
@@ -134,17 +133,13 @@ fn part_fault(part: FilePart) -> &'static str {
     }
 }
 
-/// The reader with a zone, which it copies, if one is given.
-pub fn in_zone(
+/// Keeps a zone to the end of the program, if one is given. Fails only if no memory is left.
+pub fn for_good(
     alloc: Global,
-    reader: Reader,
-    zone: Option<&OwnedZone>,
-) -> Result<Reader, AllocError> {
-    match (reader, zone) {
-        (Reader::Formed(mut reader), Some(zone)) => {
-            reader.zone = Some(OwnedZone::new(alloc, &zone.zone())?);
-            Ok(Reader::Formed(reader))
-        }
-        (reader, _) => Ok(reader),
+    zone: Option<OwnedZone>,
+) -> Result<&'static Option<OwnedZone>, AllocError> {
+    match Box::new(alloc, zone) {
+        Ok(kept) => Ok(Box::leak(kept)),
+        Err(_) => Err(AllocError),
     }
 }

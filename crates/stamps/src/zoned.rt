@@ -3,7 +3,7 @@ ghost use Rattle.std.specs.Prelude.{◌≡◌, ◌+◌, ◌≤◌, IfOk, drop, l
 ghost use Rattle.log_forms.specs.Years.{assumed_after};
 ghost use Rattle.stamps.specs.LineStamps.{has_mark, mark_length};
 ghost use Rattle.stamps.specs.Showings.{IsFormShowing, IsLineShowing, IsWallShowing, wall_if_ok, wall_unless_ok, zone_wall};
-ghost use Rattle.stamps.specs.Zoned.{assumed_stamp, at_instant, in_zone, stamp_by, zoned_stamp};
+ghost use Rattle.stamps.specs.Zoned.{assumed_stamp, at_instant, in_zone, stamp_by, with_zone, zone_of, zoned_stamp};
 
 use crate::readers::{FormReader, Reader, mark_length};
 use calendar_values::UtcOffset;
@@ -13,6 +13,16 @@ use log_zones::{NoInstant, Showing, instant_in, showing_in};
 use utc_times::UtcDateTime;
 use zones::OwnedZone;
 
+/// The reader with a zone, or with none. That of RFC 3339 at the front needs none.
+pub fn with_zone(reader: Reader, zone: Option<&'static OwnedZone>) -> Reader
+    ensures { result ≡ with_zone zone.entry reader }
+{
+    match reader {
+        Reader::Plain => Reader::Plain,
+        Reader::Formed(reader) => Reader::Formed(FormReader { zone, ..reader }),
+    }
+}
+
 /// The stamp of a text in a form, by what is assumed. If the reader has a time zone, the instant of
 /// a stamp without an offset is the earliest at which the clocks of the zone show it. A stamp that
 /// they never show has an hour that is out of range.
@@ -21,10 +31,10 @@ pub fn assumed_stamp(
     assumed: &Assumed,
     text: &[u8],
 ) -> Result<Stamp, StampRefusal>
-    ensures stamp { result ≡ assumed_stamp reader.now.zone reader.now assumed.now text.now }
+    ensures stamp { result ≡ assumed_stamp (zone_of reader.now) reader.now assumed.now text.now }
     ensures within { IfOk result (λ stamp. stamp.start + stamp.length ≤ length text.now) }
 {
-    match &reader.zone {
+    match reader.zone {
         None => stamp_by(reader, assumed, text),
         Some(zone) => zoned_stamp(zone, reader, assumed, text),
     }
@@ -114,9 +124,9 @@ pub fn line_showing(
 
 // How often the clocks of the zone of a reader show the wall clock of a text.
 fn form_showing(reader: &FormReader, last: Option<UtcDateTime>, text: &[u8]) -> Option<Showing>
-    ensures { IsFormShowing reader.now.zone reader.now last text.now result }
+    ensures { IsFormShowing (zone_of reader.now) reader.now last text.now result }
 {
-    let Some(zone) = &reader.zone else {
+    let Some(zone) = reader.zone else {
         return None;
     };
     let assumed = assumed_after(&reader.assumed, last);
