@@ -9,7 +9,7 @@ from zoneinfo import ZoneInfo
 
 from shared.form_changes import YEAR_LACKS, Changing
 from shared.form_lines import Reader, told_first
-from shared.stamp_lines import NANOS, count_of, front_lines, result_of, told_tally
+from shared.stamp_lines import NANOS, count_of, result_of, told_tally
 
 # Two zones of an hour of summer time, and one of half an hour. Their files end before 2038, and rules hold from then on.
 ZONES = ("Europe/Berlin", "America/New_York", "Australia/Lord_Howe")

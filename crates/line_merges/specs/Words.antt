@@ -35,6 +35,7 @@ pub use Rattle.line_merges.specs.Lines.{first_place}
 unfoldable pub use Rattle.line_merges.specs.Lines.{log_lines, stamp_tally}
 pub use Rattle.line_merges.specs.Logs.{FindsNext, IsEnough, IsReady, PassesLine, ReadsOn, memory_behind, new_log, place_behind}
 pub use Rattle.line_merges.specs.Runs.{AreNew, Ends, IsMerged, LogState, Output, first_memories, log_states, output}
-pub use Rattle.line_merges.specs.Sorts.{HasRead, IsInOrderOf, ReadsLine, Sorts, first_lateness, is_late, late_after}
-unfoldable pub use Rattle.line_merges.specs.Sorts.{held_text}
+pub use Rattle.line_merges.specs.Sorts.{HasRead, IsInOrderOf, ReadsLine, Sorts, far_after, first_distance, first_lateness, is_far, is_late}
+pub use Rattle.line_merges.specs.Sorts.{late_after, least_of}
+unfoldable pub use Rattle.line_merges.specs.Sorts.{far_after_lines, held_text}
 pub use Rattle.line_merges.specs.Steps.{AreKnown, FindsLine, SendsNext, back_line, fault_at, fronts_of, readings_now}

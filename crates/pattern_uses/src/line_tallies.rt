@@ -23,7 +23,7 @@ pub fn with_next(tally: StampTally, lines: u64, line: &[u8], has_stamp: bool) ->
 }
 
 /// The number of lines of text without a stamp.
-pub fn refused(tally: &StampTally) -> u64
+pub fn count_refused(tally: &StampTally) -> u64
     ensures { (kinds : List LineKind) → tally.now ≡ tally_of_kinds kinds →
         result ≡ as_count (count_by is_bare kinds) }
 {
@@ -31,7 +31,7 @@ pub fn refused(tally: &StampTally) -> u64
 }
 
 /// The same, if a report is due.
-pub fn reported(tally: &StampTally) -> Option<u64>
+pub fn due_report(tally: &StampTally) -> Option<u64>
     ensures { result ≡ if is_due tally.now then Some tally.now.missing else None }
 {
     if tally.is_due() {

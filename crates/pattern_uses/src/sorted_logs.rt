@@ -55,7 +55,7 @@ impl Instants for FrontStamps {
 }
 
 /// The bytes of one log, and then those of another.
-pub fn joined(first: &[u8], second: &[u8], alloc: Global) -> Result<Vec<u8>, AllocError>
+pub fn join_logs(first: &[u8], second: &[u8], alloc: Global) -> Result<Vec<u8>, AllocError>
     ensures { IfOk result (λ both. both.items ≡ first.now ++ second.now) }
 {
     let mut both = Vec::new(alloc);
@@ -77,7 +77,7 @@ pub fn sort_both<W: Sink>(
         (pos 0) (first.now ++ second.now) (W.written writer.old) (W.written writer.new) sorted) }
     ensures mark { OnOk result (W.is_marked writer.new ≡ W.is_marked writer.old) }
 {
-    let both = joined(first, second, alloc)?;
+    let both = join_logs(first, second, alloc)?;
     sort(stamps, 0, both.as_slice(), (), writer, alloc)
 }
 

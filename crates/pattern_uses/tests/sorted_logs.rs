@@ -4,7 +4,7 @@ use calendar_values::UtcOffset;
 use line_devices::devices::{Device, Sink, Source};
 use line_devices::sending::{Pending, flush};
 use log_forms::{Assumed, FormName, named_form};
-use pattern_uses::sorted_logs::{FrontStamps, joined};
+use pattern_uses::sorted_logs::{FrontStamps, join_logs};
 use pattern_uses::{device_lines, line_tallies, sorted_logs};
 use std::collections::VecDeque;
 use std::io::Cursor;
@@ -68,15 +68,15 @@ fn lines_are_counted(rt: HostRuntime) {
     let one = line_tallies::with_next(none, 0, b"Dec 31 23:59:59 a", true);
     let two = line_tallies::with_next(one, 1, b"b", false);
     is(&rt, (two.texts, two.first), (2, Some(2)));
-    is(&rt, line_tallies::refused(&two), 1);
-    is(&rt, line_tallies::reported(&two), Some(1));
-    is(&rt, line_tallies::reported(&one), None);
+    is(&rt, line_tallies::count_refused(&two), 1);
+    is(&rt, line_tallies::due_report(&two), Some(1));
+    is(&rt, line_tallies::due_report(&one), None);
 }
 
 #[test]
 fn logs_are_sorted(rt: HostRuntime) -> Result<(), Fail> {
     let (first, second) = (b"Dec 31 23:59:59 a\n", b"Dec 31 23:59:58 b\n c\n");
-    let both = joined(first, second, rt.alloc())?;
+    let both = join_logs(first, second, rt.alloc())?;
     is(&rt, both.len(), 39);
     let mut device = Device::new(VecDeque::new(rt.alloc()));
     let stamps = front_stamps();
