@@ -74,11 +74,11 @@ pub fn sort_both<W: Sink>(
     alloc: Global,
 ) -> Result<Sorted<()>, SortFault>
     ensures sorted { IfOk result (λ sorted. Sorts (front_stamps stamps.now.form stamps.now.assumed)
-        (pos 0) (first.now ++ second.now) (W.written writer.old) (W.written writer.new) sorted) }
+        (pos 0) 0 (first.now ++ second.now) (W.written writer.old) (W.written writer.new) sorted) }
     ensures mark { OnOk result (W.is_marked writer.new ≡ W.is_marked writer.old) }
 {
     let both = join_logs(first, second, alloc)?;
-    sort(stamps, 0, both.as_slice(), (), writer, alloc)
+    sort(stamps, 0, 0, both.as_slice(), (), writer, alloc)
 }
 
 /// Writes the lines of a log in the order of their instants, and returns the number of those that
@@ -94,7 +94,7 @@ pub fn late_lines<W: Sink>(
         IsWithin window (log_lines (front_stamps stamps.now.form stamps.now.assumed) log.now)) }
 {
     late_lines_are_told();
-    match sort(stamps, window, log, (), writer, alloc) {
+    match sort(stamps, window, 0, log, (), writer, alloc) {
         Ok(sorted) => Some(sorted.lateness.count),
         Err(_) => None,
     }
@@ -114,7 +114,7 @@ where
     ensures { IfSome result (λ tally. tally ≡
         stamp_tally (log_lines (reading_from (I.reading instants.now 0) memory) log.now)) }
 {
-    match sort(instants, 0, log, memory, writer, alloc) {
+    match sort(instants, 0, 0, log, memory, writer, alloc) {
         Ok(sorted) => Some(sorted.place.stamps),
         Err(_) => None,
     }
