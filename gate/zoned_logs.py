@@ -309,5 +309,5 @@ def problem_of_remedy(run, words, data, lack):
         if b" fits: " in ended.told:
             words = with_remedy(words, ended.told.decode())
             ended = run(words, data)
-    is_read = ended.status == 0 and b"line 38: the form changes" in ended.told
+    is_read = ended.status == 0 and b"line 37: the form changes" in ended.told
     return None if is_read else f"{words}: status {ended.status}, {ended.told.decode()!r}"
